@@ -1,0 +1,35 @@
+-- Document 01, the network of a deck: blocks and their branches, and the hydrograph that the network alone defines. No stack is spoken of in the first part.
+use Prim.Native.Nat.{ℕ, zero, suc, _+_}
+use mathlib.Core.List.{List, [], _∷_}
+use Rattle.meaning.specs.Blocks.{Time, Block, Held, total, takes, made}
+
+-- Some networks side by side: a last block, the networks whose hydrographs it takes (its branches), and the others.
+pub data Nets : Type 0 where
+  none : Nets
+  net : (block : Block) → (branches : Nets) → (others : Nets) → Nets
+
+-- What each of them brings: a block makes its hydrograph from the sum of its branches'.
+abbrev pub hydrographs : Time → Nets → List Held
+hydrographs τ none = []
+hydrographs τ (net b bs others) = made τ b (total (hydrographs τ bs)) ∷ hydrographs τ others
+
+-- A deck's network joins each block to the blocks whose hydrographs it takes, those last left, found as though any number could be held.
+abbrev pub last : ℕ → Nets → Nets
+last zero s = none
+last (suc n) none = none
+last (suc n) (net b bs others) = net b bs (last n others)
+
+abbrev pub allBut : ℕ → Nets → Nets
+allBut zero s = s
+allBut (suc n) none = none
+allBut (suc n) (net b bs others) = allBut n others
+
+abbrev pub joined : Block → Nets → Nets
+joined b s = net b (last (takes b) s) (allBut (takes b) s)
+
+abbrev pub drawn : List Block → Nets → Nets
+drawn [] s = s
+drawn (b ∷ bs) s = drawn bs (joined b s)
+
+abbrev pub networkOf : List Block → Nets
+networkOf bs = drawn bs none
