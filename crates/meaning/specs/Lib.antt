@@ -12,3 +12,4 @@ pub mod Run
 pub mod Listing
 pub mod Pond
 pub mod Table
+pub mod Slips

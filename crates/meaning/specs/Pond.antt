@@ -1,5 +1,6 @@
 -- The deck of document 01 and the ways in which the tables look at what becomes of a deck.
 use Prim.Native.Nat.{ℕ, _-_}
+use mathlib.Core.Path.{_≡_}
 use mathlib.Core.List.{List, [], _∷_, _++_}
 use lib.ListN.{getD}
 use Rattle.meaning.specs.Words.{bytes}
@@ -55,3 +56,11 @@ rainValuesIn k (Done τ rs) = valuesOf (blockAt k rs .pi)
 pub record Row : Type 0 where
   pub made : List ℕ
   pub printed : List ℕ
+
+abbrev pub row : List ℕ → List ℕ → Row
+row made printed = record { made = made; printed = printed }
+
+-- Every row's figures are the definitions' own.
+abbrev pub Agree : List Row → Type 0
+Agree [] = Unit
+Agree (r ∷ rs) = (r .made ≡ r .printed) × Agree rs

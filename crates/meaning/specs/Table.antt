@@ -12,10 +12,7 @@ use Rattle.meaning.specs.Water.{rainOf, lossOf, weighed, coefA, coefB, c
 use Rattle.meaning.specs.Blocks.{tooMany, kindBy, kindOf, takes, rain, excess, made, broken}
 use Rattle.meaning.specs.Results.{peakOf, intervalOf, recordOf}
 use Rattle.meaning.specs.Run.{headOf, timeRefusal, timeOf, nameRefusal, itemRefusal, withItem, readLine, shapeRefusal, flowRefusal, closingRefusal, withResult, walk, worked}
-use Rattle.meaning.specs.Pond.{pond, Row, refusalIn, flowIn, excessIn, rainValuesIn}
-
-abbrev row : List ℕ → List ℕ → Row
-row made printed = record { made = made; printed = printed }
+use Rattle.meaning.specs.Pond.{pond, Row, row, Agree, refusalIn, flowIn, excessIn, rainValuesIn}
 
 -- P5: the pond's reach with K 0.50. P8: M written 60. and 60.0. P9: a blank inside PI.
 abbrev shortReach : List ℕ
@@ -56,10 +53,6 @@ table =
     -- P10: equal peaks: the first interval
     row (intervalOf (peakOf (2 ∷ 9 ∷ 4 ∷ 9 ∷ [])) (2 ∷ 9 ∷ 4 ∷ 9 ∷ []) ∷ []) (2 ∷ []) ∷
     []
-
-abbrev pub Agree : List Row → Type 0
-Agree [] = Unit
-Agree (r ∷ rs) = (r .made ≡ r .printed) × Agree rs
 
 pub p1-to-p10 : Agree table
 unfolding if_then_else_ same linesOf allPlain foreign allBlank trimEnd skipBlanks strip fixedField fixedFields markOf freeFrom freeFields fieldsOf word unsigned beforePoint behindPoint allDigits readOn decimalOf numberOf inUnits begins says identify valueFields anyFaulty anyOutside valuesFrom anyBlank badName rainOf lossOf weighed tooMany kindBy kindOf takes rain excess made broken headOf timeRefusal timeOf nameRefusal itemRefusal withItem readLine shapeRefusal flowRefusal closingRefusal withResult walk worked
