@@ -1,0 +1,13 @@
+#!/bin/sh
+# Builds the deck writer and the pair checker into target/second.
+set -eu
+root=$(CDPATH= cd -- "$(dirname -- "$0")/.." && pwd)
+out=$root/target/second
+mkdir -p "$out"
+cc=${CC:-gcc}
+flags="-std=c11 -O2 -Wall -Wextra -Wpedantic -Werror"
+$cc $flags -o "$out/decks" "$root/second/decks.c" "$root/second/decks_net.c" \
+    "$root/second/decks_write.c" "$root/second/decks_damage.c"
+if [ -f "$root/second/check-pairs.c" ]; then
+    $cc $flags -o "$out/check-pairs" "$root/second/check-pairs.c"
+fi

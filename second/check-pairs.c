@@ -1,0 +1,138 @@
+/* Checks the listings of a bundle of pairs (standard input: each listing
+   followed by a line of two hyphens).  Both decks of a pair draw one network:
+   when one is accepted, the other is accepted with the same lines in some
+   order and the same last line, or it is refused with number 11. */
+#include <stdio.h>
+#include <stdlib.h>
+#include <string.h>
+
+typedef struct {
+    char *text;
+    size_t n, room;
+    char **line;
+    size_t lines, slots;
+} Listing;
+
+static void fail(const char *why)
+{
+    fprintf(stderr, "check-pairs: %s\n", why);
+    exit(2);
+}
+
+static void *grown(void *p, size_t n)
+{
+    void *q = realloc(p, n);
+    if (q == NULL)
+        fail("out of memory");
+    return q;
+}
+
+/* 1 when a listing was read, 0 at the end of input */
+static int read_listing(Listing *l)
+{
+    int c;
+    size_t start = 0, i;
+    l->n = 0;
+    l->lines = 0;
+    while ((c = getchar()) != EOF) {
+        if (l->n + 2 > l->room) {
+            l->room = l->room * 2 + 4096;
+            l->text = grown(l->text, l->room);
+        }
+        l->text[l->n++] = (char)c;
+        if (c != '\n')
+            continue;
+        if (l->n - start == 3 && l->text[start] == '-' && l->text[start + 1] == '-')
+            break;
+        start = l->n;
+    }
+    if (c == EOF) {
+        if (l->n != 0)
+            fail("input ends inside a listing");
+        return 0;
+    }
+    l->n = start;
+    for (i = 0, start = 0; i < l->n; i++) {
+        if (l->text[i] == 0)
+            fail("a zero byte in a listing");
+        if (l->text[i] != '\n')
+            continue;
+        l->text[i] = 0;
+        if (l->lines == l->slots) {
+            l->slots = l->slots * 2 + 64;
+            l->line = grown(l->line, l->slots * sizeof *l->line);
+        }
+        l->line[l->lines++] = l->text + start;
+        start = i + 1;
+    }
+    return 1;
+}
+
+/* 0 accepted, else the number of the refusal */
+static int refusal(const Listing *l)
+{
+    int number, line, used = 0;
+    unsigned blocks;
+    if (l->lines == 1 && sscanf(l->line[0], "REFUSED %d %d%n", &number, &line, &used) == 2
+        && l->line[0][used] == 0)
+        return number;
+    if (l->lines < 2 || sscanf(l->line[l->lines - 1], "END %u%n", &blocks, &used) != 1
+        || l->line[l->lines - 1][used] != 0 || blocks != l->lines - 1)
+        fail("a listing that is neither a refusal nor closed by its block count");
+    return 0;
+}
+
+static int by_text(const void *a, const void *b)
+{
+    return strcmp(*(char *const *)a, *(char *const *)b);
+}
+
+static int same(Listing *a, Listing *b)
+{
+    size_t i;
+    if (a->lines != b->lines || strcmp(a->line[a->lines - 1], b->line[b->lines - 1]) != 0)
+        return 0;
+    qsort(a->line, a->lines - 1, sizeof *a->line, by_text);
+    qsort(b->line, b->lines - 1, sizeof *b->line, by_text);
+    for (i = 0; i + 1 < a->lines; i++)
+        if (strcmp(a->line[i], b->line[i]) != 0)
+            return 0;
+    return 1;
+}
+
+int main(void)
+{
+    static Listing a, b;
+    unsigned long pairs = 0, both = 0, deep = 0, neither = 0, moved = 0, bad = 0;
+    while (read_listing(&a)) {
+        if (!read_listing(&b))
+            fail("an odd number of listings");
+        int ra = refusal(&a), rb = refusal(&b);
+        pairs++;
+        if (ra == 0 && rb == 0) {
+            size_t i;
+            int differs = a.lines != b.lines;
+            for (i = 0; !differs && i < a.lines; i++)
+                differs = strcmp(a.line[i], b.line[i]) != 0;
+            moved += differs != 0;
+            if (same(&a, &b)) {
+                both++;
+            } else {
+                bad++;
+                printf("pair %lu: both accepted, listings differ\n", pairs);
+            }
+        } else if (ra == 0 || rb == 0) {
+            if (ra + rb == 11) {
+                deep++;
+            } else {
+                bad++;
+                printf("pair %lu: one accepted, the other refused with %d\n", pairs, ra + rb);
+            }
+        } else {
+            neither++;
+        }
+    }
+    printf("pairs %lu: both accepted %lu (in another order of lines %lu), one refused with 11 %lu, "
+           "neither accepted %lu, violations %lu\n", pairs, both, moved, deep, neither, bad);
+    return bad != 0 || pairs == 0;
+}

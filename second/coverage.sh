@@ -1,0 +1,80 @@
+#!/bin/sh
+# coverage.sh [SEED [BUNDLE [CASES [PAIRS]]]]
+# Writes decks, runs them through the second program and counts the answers.
+# The program is target/second/hec1, or the one that HEC1 names.
+# Fails when a refusal from 2 to 16 is missing in the bundle, when 1 or 17 is
+# missing in the cases, when a sound deck is refused, or when a pair is violated.
+set -u
+root=$(CDPATH= cd -- "$(dirname -- "$0")/.." && pwd)
+seed=${1:-1}
+bundle=${2:-20000}
+cases=${3:-2000}
+pairs=${4:-2000}
+hec1=${HEC1:-$root/target/second/hec1}
+decks=$root/target/second/decks
+sh "$root/second/build-decks.sh" || exit 2
+if [ ! -x "$hec1" ] && [ -f "$root/second/build.sh" ]; then
+    sh "$root/second/build.sh" || exit 2
+fi
+if [ ! -x "$hec1" ]; then
+    echo "coverage.sh: no program at $hec1" >&2
+    exit 2
+fi
+work=$(mktemp -d) || exit 2
+trap 'rm -rf "$work"' EXIT
+trap 'exit 1' HUP INT TERM
+passed=0
+failed=0
+
+# check COMMAND..: one thing that must hold
+check() {
+    if "$@"; then passed=$((passed + 1)); else failed=$((failed + 1)); fi
+}
+
+# count WHAT NUMBERS: counts the answers on standard input; every refusal named
+# must occur.
+count() {
+    awk -v what="$1" -v need="$2" '
+        first == "" { first = $0 == "" ? " " : $0 }
+        $0 == "--" {
+            if (first ~ /^REFUSED [0-9]+ [0-9]+$/) {
+                split(first, f, " ")
+                r[f[2]]++
+            } else
+                accepted++
+            n++
+            first = ""
+            next
+        }
+        END {
+            printf "%-8s %7d  accepted %7d (%.1f %%)\n", what, n, accepted, n ? 100 * accepted / n : 0
+            k = split(need, must, " ")
+            for (i = 1; i <= 17; i++)
+                if (r[i]) printf "    refusal %2d: %6d\n", i, r[i]
+            for (i = 1; i <= k; i++)
+                if (!r[must[i]]) { printf "    refusal %2d is missing\n", must[i]; gap = 1 }
+            if (n == 0) gap = 1
+            if (what == "sound" && accepted != n) { print "    a sound deck was refused"; gap = 1 }
+            exit gap
+        }'
+}
+
+"$decks" bundle "$seed" "$bundle" > "$work/decks"
+"$hec1" --bundle < "$work/decks" > "$work/out" || failed=$((failed + 1))
+check count bundle "2 3 4 5 6 7 8 9 10 11 12 13 14 15 16" < "$work/out"
+
+"$decks" cases "$seed" "$cases" > "$work/decks"
+"$hec1" --cases < "$work/decks" > "$work/out" || failed=$((failed + 1))
+check count cases "1 17" < "$work/out"
+
+"$decks" sound "$seed" "$pairs" > "$work/decks"
+"$hec1" --bundle < "$work/decks" > "$work/out" || failed=$((failed + 1))
+check count sound "" < "$work/out"
+
+"$decks" pairs "$seed" "$pairs" > "$work/decks"
+"$hec1" --bundle < "$work/decks" > "$work/out" || failed=$((failed + 1))
+check count pairs "11" < "$work/out"
+check "$root/target/second/check-pairs" < "$work/out"
+
+echo "$passed passed, $failed failed"
+[ "$failed" -eq 0 ]

@@ -1,0 +1,588 @@
+/* The deck writer: seeded test decks for the engine of document 01. */
+#include <stdio.h>
+#include <stdlib.h>
+#include <string.h>
+#include "decks.h"
+
+static Line lines[MAX_LINES];
+static unsigned char padding[MAX_BYTES], tailing[MAX_BYTES], bytes[2 * MAX_BYTES];
+static Net net;
+static Deck deck = { lines, 0, 0, 0, 0, 0, 0, padding, tailing };
+static Style style;
+static int fill_to;                                /* 0, or the length a deck is to have */
+
+static const char help[] =
+    "decks bundle SEED COUNT          COUNT decks, each behind its length (4 bytes, little-endian)\n"
+    "decks cases SEED COUNT           COUNT cases: five 4-byte little-endian numbers (named block, work\n"
+    "                                 words, ordinate words, record bytes, deck length) and the deck\n"
+    "decks pairs SEED COUNT           COUNT pairs of decks, as in a bundle; each pair draws one network\n"
+    "                                 in two orders and two manners of writing\n"
+    "decks sound SEED COUNT           COUNT lawful decks, as in a bundle\n"
+    "decks damaged SEED COUNT NUMBER  COUNT decks, each with one damage aimed at that refusal (2 to 16)\n"
+    "decks one SEED INDEX             deck INDEX (from 0) of the bundle of that seed, bare\n"
+    "decks big SEED lists [BYTES]                       one long deck of PI, UI and QI lines, bare\n"
+    "decks big SEED blocks [BLOCKS [NQ [UNITS [RAIN]]]] one deck of runoff blocks and confluences, bare\n"
+    "decks big SEED routing [BLOCKS [NQ [STEPS]]]       one deck of routings, bare\n"
+    "decks --help                     this text\n"
+    "\n"
+    "The same seed gives the same bytes on every machine.  Deck number I of a bundle depends on the\n"
+    "seed and I alone, not on COUNT.\n";
+
+static void number4(uint32_t v)
+{
+    putchar((int)(v & 255));
+    putchar((int)(v >> 8 & 255));
+    putchar((int)(v >> 16 & 255));
+    putchar((int)(v >> 24 & 255));
+}
+
+static void out_deck(int n)
+{
+    number4((uint32_t)n);
+    fwrite(bytes, 1, (size_t)n, stdout);
+}
+
+/* ---- sound decks ---- */
+
+static void it_values(int top)
+{
+    net.m = pick_minutes();
+    net.nq = pick_nq(top);
+}
+
+/* A lawful deck in `deck`, its network in `net`.  small: for the cases. */
+static void sound_once(int small)
+{
+    int r = rnd(1000), size;
+    style_random(&style);
+    if (small) {
+        it_values(20);
+        net_random(&net, between(1, 12), 0, 12, FLOW_SHARE, 25);
+        if (pct(3)) {
+            it_values(300);
+            net_random(&net, between(100, LIMIT_BLOCKS), 0, 3, FLOW_SMALL, 25);
+        }
+    } else if (r < 430) {
+        it_values(12);
+        size = between(1, 5);
+        net_random(&net, size, 0, 12, pct(60) ? FLOW_SHARE : FLOW_SMALL, 30);
+    } else if (r < 760) {
+        it_values(30);
+        size = between(2, 16);
+        net_random(&net, size, 0, 16, pct(50) ? FLOW_SHARE : FLOW_SMALL, 25);
+    } else if (r < 840) {
+        it_values(100);
+        net_random(&net, between(10, 60), 0, 10, FLOW_SHARE, 25);
+    } else if (r < 855) {                          /* large trees */
+        it_values(60);
+        size = pct(50) ? LIMIT_BLOCKS : between(100, LIMIT_BLOCKS);
+        net_random(&net, size, 0, 4, FLOW_SHARE, between(5, 60));
+    } else if (r < 885) {                          /* twenty held */
+        it_values(12);
+        net_random(&net, between(25, 45), LIMIT_HELD, 4, FLOW_SHARE, 5);
+    } else if (r < 945) {                          /* at and below the flow limit */
+        it_values(10);
+        size = between(1, 10);
+        net_limit(&net, size, pct(60) ? 0 : -1);
+    } else if (r < 965) {                          /* full lists */
+        it_values(300);
+        if (pct(60)) net.nq = LIMIT_NQ;
+        net_random(&net, between(1, 6), 0, 300, FLOW_SHARE, 30);
+    } else if (r < 990) {                          /* long routings of high flows */
+        net.m = pct(50) ? 1440 : between(1, 60);
+        net.nq = pick_nq(40);
+        net_random(&net, between(4, 20), 0, 40, FLOW_SHARE, 70);
+    } else {
+        it_values(300);
+        net_random(&net, between(1, 60), 0, 40, FLOW_SHARE, 25);
+    }
+    deck_write(&deck, &net, &style);
+    fill_to = 0;
+    if (r >= 970 && r < 977 && !small)             /* near and at the longest deck */
+        fill_to = pct(60) ? LIMIT_BYTES : between(LIMIT_BYTES - 200, LIMIT_BYTES);
+}
+
+static void sound(int small)
+{
+    do {
+        sound_once(small);
+    } while (deck_bytes(&deck, bytes) > LIMIT_BYTES);
+}
+
+/* The bytes of `deck`, filled out where it is to be long. */
+static int finish(void)
+{
+    int n = deck_bytes(&deck, bytes);
+    if (fill_to > n && fill_to > 0) {
+        deck_fill(&deck, fill_to, rnd(4));
+        n = deck_bytes(&deck, bytes);
+    }
+    return n;
+}
+
+/* ---- the bundle ---- */
+
+static int pick_refusal(void)
+{
+    /* 2 and 14 make long decks, so they come less often */
+    static const int usual[] = {
+        3, 3, 4, 4, 5, 5, 5, 6, 6, 6, 7, 7, 7, 8, 8, 9, 9, 9, 10, 10, 11, 11, 12, 12, 13, 13, 15, 15, 16
+    };
+    int r = rnd(1000);
+    if (r < 8) return 2;
+    if (r < 30) return 14;
+    return usual[rnd((int)(sizeof usual / sizeof usual[0]))];
+}
+
+static void base_for(int number)
+{
+    fill_to = 0;
+    if (number == 14) {
+        style_random(&style);
+        style.pkm /= 4;
+        style.pblank /= 4;
+        it_values(12);
+        net_random(&net, between(LIMIT_BLOCKS - 5, LIMIT_BLOCKS), 0, 3, FLOW_SHARE, 40);
+        deck_write(&deck, &net, &style);
+    } else if (number == 11 && pct(40)) {
+        style_random(&style);
+        it_values(8);
+        net_random(&net, between(25, 45), LIMIT_HELD, 3, FLOW_SHARE, 5);
+        deck_write(&deck, &net, &style);
+    } else {
+        do {
+            sound(0);
+        } while (net.nb > 60 && !pct(25));
+    }
+}
+
+static int bundle_deck(uint64_t seed, int index)
+{
+    int r, n;
+    rng_seed(seed, (uint64_t)index);
+    fill_to = 0;
+    r = rnd(1000);
+    if (r < 450) {
+        sound(0);
+        return finish();
+    }
+    if (r < 745) {                                 /* one damage */
+        int number = pick_refusal();
+        base_for(number);
+        damage(&deck, &net, &style, number);
+        n = finish();
+        return n;
+    }
+    if (r < 830) {                                 /* two damages */
+        int a = pick_refusal(), b;
+        b = pick_refusal();
+        base_for(a == 14 || b == 14 ? 14 : a);
+        damage(&deck, &net, &style, a);
+        if (pct(50) || !damage_more(&deck, &style))
+            damage(&deck, &net, &style, b);
+        return finish();
+    }
+    if (r < 850) {                                 /* flows without a rein */
+        int size = between(2, 10);
+        style_random(&style);
+        it_values(12);
+        if (pct(40))
+            net_limit(&net, size, pct(50) ? 1 : 1000);
+        else
+            net_random(&net, between(2, 16), 0, 12, FLOW_WILD, 25);
+        deck_write(&deck, &net, &style);
+        return finish();
+    }
+    if (r < 980) {                                 /* blind mutations */
+        int times = pct(70) ? 1 : between(2, 4);
+        sound(0);
+        int by_line = pct(40);
+        while (by_line && times-- > 0)
+            deck_mutate_lines(&deck);
+        n = finish();
+        while (!by_line && times-- > 0)
+            n = bytes_mutate(bytes, n);
+        return n;
+    }
+    n = degenerate(bytes);
+    if (pct(15))
+        n = bytes_mutate(bytes, n);
+    return n;
+}
+
+static void bundle(uint64_t seed, int count)
+{
+    int i;
+    for (i = 0; i < count; i++)
+        out_deck(bundle_deck(seed, i));
+}
+
+/* ---- one sort of deck only ---- */
+
+static void only_sound(uint64_t seed, int count)
+{
+    int i;
+    for (i = 0; i < count; i++) {
+        rng_seed(seed, ((uint64_t)4 << 40) + (uint64_t)i);
+        sound(0);
+        out_deck(finish());
+    }
+}
+
+static void only_damaged(uint64_t seed, int count, int number)
+{
+    int i;
+    for (i = 0; i < count; i++) {
+        rng_seed(seed, ((uint64_t)5 << 40) + (uint64_t)i);
+        base_for(number);
+        damage(&deck, &net, &style, number);
+        out_deck(finish());
+    }
+}
+
+/* ---- cases ---- */
+
+static void cases(uint64_t seed, int count)
+{
+    static const uint32_t far[] = { 0xFFFFFFFFu, 0x80000000u, 0x7FFFFFFFu, 65536u, 256u, 201u, 1000u };
+    int i, n;
+    for (i = 0; i < count; i++) {
+        rng_seed(seed, ((uint64_t)1 << 40) + (uint64_t)i);
+        sound(1);
+        int r = rnd(100);
+        if (r < 10)
+            damage(&deck, &net, &style, pick_refusal());
+        if (r >= 10 && r < 13)
+            deck_mutate_lines(&deck);
+        n = deck_bytes(&deck, bytes);
+        if (r == 13)
+            n = degenerate(bytes);
+        int exact = 32 * net.nb;
+        uint32_t named, work, ord, rec;
+        r = rnd(100);
+        named = r < 35 ? 0u : r < 80 ? (uint32_t)between(1, net.nb) : r < 88 ? (uint32_t)net.nb
+              : r < 95 ? (uint32_t)net.nb + 1 : far[rnd(7)];
+        r = rnd(100);
+        work = r < 60 ? 6000u : r < 70 ? 6001u : r < 88 ? (uint32_t)between(6000, 12000) : r < 94 ? 5999u
+             : r < 96 ? 0u : (uint32_t)rnd(6000);
+        r = rnd(100);
+        ord = r < 50 ? (uint32_t)net.nq : r < 65 ? (uint32_t)net.nq + 1 : r < 88 ? (uint32_t)between(net.nq, 600)
+            : r < 95 ? (uint32_t)net.nq - 1 : r < 97 ? 0u : (uint32_t)rnd(net.nq);
+        r = rnd(100);
+        rec = r < 50 ? (uint32_t)exact : r < 62 ? (uint32_t)exact + 1 : r < 88 ? (uint32_t)between(exact, 16000)
+            : r < 94 ? (uint32_t)exact - 1 : r < 96 ? 0u : (uint32_t)rnd(exact);
+        number4(named);
+        number4(work);
+        number4(ord);
+        number4(rec);
+        out_deck(n);
+    }
+}
+
+/* ---- pairs ---- */
+
+static void pair_deck(void)
+{
+    do {
+        style_random(&style);
+        deck_write(&deck, &net, &style);
+    } while (deck_bytes(&deck, bytes) > LIMIT_BYTES);
+    out_deck(deck_bytes(&deck, bytes));
+}
+
+static int spoil(int number)                       /* makes one block of the network unlawful */
+{
+    int i, tries;
+    for (tries = 0; tries < 50; tries++) {
+        i = rnd(net.nb);
+        Block *b = &net.b[i];
+        if (number == 12 && b->kind == 4
+            && rm_pick(net.m, pct(50) ? RM_UNDER : RM_OVER, &b->rn, &b->rk, &b->rx))
+            return 1;
+        if (number == 13 && b->kind == 1) {
+            b->npi = b->nui = 1;
+            b->pi[0] = LIMIT_PI;
+            b->ui[0] = 500001;
+            b->lu1 = b->lu2 = 0;
+            return 1;
+        }
+    }
+    return 0;
+}
+
+static void pairs(uint64_t seed, int count)
+{
+    int i;
+    for (i = 0; i < count; i++) {
+        rng_seed(seed, ((uint64_t)2 << 40) + (uint64_t)i);
+        int r = rnd(100), distinct = pct(75), tries, size;
+        it_values(20);
+        if (r < 12) {                              /* one order too deep */
+            net_caterpillar(&net, between(18, 40), 4);
+            net_names(&net, distinct);
+            if (pct(50)) {
+                net_deepest_first(&net);
+                pair_deck();
+                net_deepest_last(&net);
+            } else {
+                net_deepest_last(&net);
+                pair_deck();
+                net_shuffle(&net);
+            }
+            pair_deck();
+            continue;
+        }
+        if (r < 20) {                              /* at, below and over the flow limit */
+            size = between(2, 12);
+            net_limit(&net, size, pct(40) ? 0 : pct(40) ? -1 : pct(50) ? 1 : 1000);
+        } else if (r < 24) {
+            net_random(&net, between(100, LIMIT_BLOCKS), 0, 3, FLOW_SHARE, 20);
+        } else if (r < 34) {                       /* many held */
+            net_random(&net, between(25, 50), LIMIT_HELD, 4, FLOW_SHARE, 8);
+        } else {
+            size = between(3, 24);
+            net_random(&net, size, 0, 14, pct(90) ? FLOW_SHARE : FLOW_WILD, 20);
+        }
+        net_names(&net, distinct);
+        if (pct(6))
+            spoil(pct(50) ? 12 : 13);
+        for (tries = 0; tries < 20; tries++) {
+            net_shuffle(&net);
+            if (net_held(&net) <= LIMIT_HELD)
+                break;
+        }
+        pair_deck();
+        for (tries = 0; tries < 20; tries++) {
+            if (pct(5)) net_deepest_last(&net);
+            else if (pct(5)) net_deepest_first(&net);
+            else net_shuffle(&net);
+            if (net_held(&net) <= LIMIT_HELD || r % 7 == 0)
+                break;
+        }
+        pair_deck();
+    }
+}
+
+/* ---- long decks for timing ---- */
+
+static int used;
+static unsigned char *big = bytes;
+
+static void say(const char *t)
+{
+    int n = (int)strlen(t);
+    memcpy(big + used, t, (size_t)n);
+    used += n;
+}
+
+static void say_number(int v, int places)
+{
+    char t[16];
+    number_write(t, v, places, 15, 0);
+    say(t);
+}
+
+/* one list line of c values of up to `top`, counted in the last place */
+static void say_list(const char *ident, int c, int least, int top, int places)
+{
+    int i;
+    say(ident);
+    for (i = 0; i < c; i++) {
+        if (i) say(",");
+        say_number(between(least, top), places);
+    }
+    say("\n");
+}
+
+static int name_number;
+
+static void say_block(void)
+{
+    static const char letters[] = "ABCDEFGHIJKLMNOPQRSTUVWXYZ";
+    char t[8] = { 'K', 'K', 0 };
+    t[2] = letters[name_number % 26];
+    t[3] = letters[name_number / 26 % 26];
+    t[4] = '\n';
+    t[5] = 0;
+    name_number++;
+    say(t);
+}
+
+static void big_lists(int size)
+{
+    int k = 0, blocks = 0;
+    say("ID LISTS\n*FREE\nIT 60,,,300\n");
+    /* runoff, inflow and their confluence by turns, until the bytes are used up */
+    while (used < size - 150 && blocks < LIMIT_BLOCKS - 4) {
+        int v;
+        say_block();
+        if (k % 2 == 0) {
+            say("BA 1.5\nLU 0.5,0.1\n");
+            for (v = 0; v < 300 && used < size - 120; v += 10)
+                say_list("PI", 10, 1, 9999, 4);
+            if (v == 0) say("PI\n");
+            int units = 0;
+            for (v = 0; v < 150 && used < size - 120; v += 10, units++)
+                say_list("UI", 10, 1, 999, 2);
+            if (units == 0) say("UI\n");
+        } else {
+            int lines_done = 0;
+            for (v = 0; v < 300 && used < size - 120; v += 10, lines_done++)
+                say_list("QI", 10, 1, 99999, 2);
+            if (lines_done == 0) say("QI\n");
+        }
+        blocks++;
+        if (k > 0) {
+            say_block();
+            say("HC 2\n");
+            blocks++;
+        }
+        k++;
+    }
+    say("ZZ\n");
+}
+
+static void big_blocks(int count, int nq, int units, int rain)
+{
+    int held = 0, left = count, v;
+    char t[64];
+    snprintf(t, sizeof t, "*FREE\nIT60,,,%d\n", nq);
+    say(t);
+    /* excess is 0.05 or 1.05 inch, unit ordinates 1 to 3: far below the limit */
+    while (left > 0) {
+        if (left <= (held - 1 + 3) / 4 || held == LIMIT_HELD) {
+            int n = held < 5 ? held : 5;
+            say_block();
+            if (held == 1) {
+                say("RM1,1\n");
+            } else {
+                snprintf(t, sizeof t, "HC%d\n", n);
+                say(t);
+                held -= n - 1;
+            }
+        } else if (held > 0 && left == (held + 3) / 4) {
+            say_block();                           /* one block too few for another leaf */
+            say("RM1,1\n");
+        } else {
+            say_block();
+            say("BA1\nLU,.95\n");
+            for (v = 0; v < rain; v += 10)
+                say_list("PI", rain - v < 10 ? rain - v : 10, 1, 2, 0);
+            if (rain == 0) say("PI\n");
+            for (v = 0; v < units; v += 10)
+                say_list("UI", units - v < 10 ? units - v : 10, 1, 3, 0);
+            if (units == 0) say("UI\n");
+            held++;
+        }
+        left--;
+    }
+    say("ZZ\n");
+}
+
+static void big_routing(int count, int nq, int steps)
+{
+    int v, i, m = steps > 0 ? 500 / steps : 1, rk, rx;
+    char t[64];
+    if (m < 1) m = 1;
+    if (m > 60) m = 60;
+    snprintf(t, sizeof t, "ID ROUTING\n*FREE\nIT %d,,,%d\n", m, nq);
+    say(t);
+    say_block();
+    for (v = 0; v < nq; v += 10)
+        say_list("QI", nq - v < 10 ? nq - v : 10, 1, 99999, 0);
+    for (i = 1; i < count; i++) {
+        int a = 250 * steps * m;
+        rx = between(0, 40);
+        int lo = (a + 3 * (100 - rx) - 1) / (3 * (100 - rx)), hi = rx > 0 ? a / (3 * rx) : 2400;
+        if (hi > 2400) hi = 2400;
+        rk = between(lo, hi);
+        say_block();
+        snprintf(t, sizeof t, "RM %d,", steps);
+        say(t);
+        say_number(rk, 2);
+        say(",");
+        say_number(rx, 2);
+        say("\n");
+    }
+    say("ZZ\n");
+}
+
+/* ---- command line ---- */
+
+static int whole(const char *t, int least, int top, const char *what)
+{
+    char *end;
+    long v = strtol(t, &end, 10);
+    if (*t == 0 || *end != 0 || v < least || v > top) {
+        fprintf(stderr, "decks: %s must be a number from %d to %d\n", what, least, top);
+        exit(2);
+    }
+    return (int)v;
+}
+
+static int usage(void)
+{
+    fputs(help, stderr);
+    return 2;
+}
+
+int main(int argc, char **argv)
+{
+    if (argc == 2 && (!strcmp(argv[1], "--help") || !strcmp(argv[1], "-h"))) {
+        fputs(help, stdout);
+        return 0;
+    }
+    if (argc < 4)
+        return usage();
+    char *end;
+    uint64_t seed = strtoull(argv[2], &end, 10);
+    if (*argv[2] == 0 || *end != 0)
+        return usage();
+    const char *what = argv[1];
+    if (!strcmp(what, "big")) {
+        int a[4], i, given = argc - 4;
+        const char *kind = argv[3];
+        rng_seed(seed, (uint64_t)3 << 40);
+        if (given > 4)
+            return usage();
+        for (i = 0; i < given; i++)
+            a[i] = whole(argv[4 + i], 0, LIMIT_BYTES, "a size");
+        if (!strcmp(kind, "lists"))
+            big_lists(given > 0 ? a[0] : LIMIT_BYTES);
+        else if (!strcmp(kind, "blocks"))
+            big_blocks(given > 0 ? a[0] : LIMIT_BLOCKS, given > 1 ? a[1] : LIMIT_NQ,
+                       given > 2 ? a[2] : LIMIT_UNITS,
+                       given > 3 ? a[3] : given > 1 && a[1] < 10 ? a[1] : 10);
+        else if (!strcmp(kind, "routing"))
+            big_routing(given > 0 ? a[0] : LIMIT_BLOCKS, given > 1 ? a[1] : LIMIT_NQ, given > 2 ? a[2] : 50);
+        else
+            return usage();
+        fwrite(big, 1, (size_t)used, stdout);
+    } else {
+        int count = whole(argv[3], 0, 100000000, "COUNT");
+        int aimed = !strcmp(what, "damaged");
+        if (argc != 4 + aimed)
+            return usage();
+        if (!strcmp(what, "bundle")) {
+            bundle(seed, count);
+        } else if (aimed) {
+            only_damaged(seed, count, whole(argv[4], 2, 16, "NUMBER"));
+        } else if (!strcmp(what, "sound")) {
+            only_sound(seed, count);
+        } else if (!strcmp(what, "cases")) {
+            cases(seed, count);
+        } else if (!strcmp(what, "pairs")) {
+            pairs(seed, count);
+        } else if (!strcmp(what, "one")) {
+            int n = bundle_deck(seed, count);
+            fwrite(bytes, 1, (size_t)n, stdout);
+        } else {
+            return usage();
+        }
+    }
+    if (fflush(stdout) != 0 || ferror(stdout)) {
+        fputs("decks: cannot write\n", stderr);
+        return 1;
+    }
+    return 0;
+}

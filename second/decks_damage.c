@@ -1,0 +1,967 @@
+/* Damages aimed at one refusal each (document 01, the table of refusals),
+   blind mutations, and decks that hardly are decks. */
+#include <stdio.h>
+#include <string.h>
+#include "decks.h"
+
+#define COUNT(a) ((int)(sizeof(a) / sizeof((a)[0])))
+
+/* ---- places in a deck ---- */
+
+static Line *touched;                              /* the line damaged last */
+
+static int find_tag(const Deck *d, int tag)       /* a random line of that record, or -1 */
+{
+    int i, c = 0;
+    for (i = 0; i < d->nl; i++)
+        c += d->l[i].tag == tag;
+    if (c == 0)
+        return -1;
+    c = rnd(c);
+    for (i = 0; i < d->nl; i++)
+        if (d->l[i].tag == tag && c-- == 0)
+            return i;
+    return -1;
+}
+
+static int first_tag(const Deck *d, int tag)
+{
+    int i;
+    for (i = 0; i < d->nl; i++)
+        if (d->l[i].tag == tag)
+            return i;
+    return -1;
+}
+
+static Line *insert(Deck *d, int at, int tag)
+{
+    Line *l = &d->l[at];
+    int form = at < d->nl ? l->form : d->nl > 0 ? d->l[d->nl - 1].form : FIXED;
+    int blk = at > 0 ? d->l[at - 1].blk : -1;
+    if (d->nl >= MAX_LINES - 2)
+        d->nl--;
+    memmove(l + 1, l, (size_t)(d->nl - at) * sizeof *l);
+    touched = l;
+    d->nl++;
+    l->tag = tag;
+    l->form = form;
+    l->blk = blk;
+    l->nf = 0;
+    l->len = 0;
+    return l;
+}
+
+static void drop(Deck *d, int at, int count)
+{
+    memmove(&d->l[at], &d->l[at + count], (size_t)(d->nl - at - count) * sizeof d->l[0]);
+    d->nl -= count;
+}
+
+/* the line of the KK or ZZ that closes the block open at this line */
+static int closing_line(const Deck *d, int at)
+{
+    int i;
+    for (i = at; i < d->nl; i++)
+        if (d->l[i].tag == T_KK || d->l[i].tag == T_ZZ)
+            return i;
+    return d->nl;
+}
+
+static int last_line_of_deck(const Deck *d)       /* the ZZ, or the end */
+{
+    int z = first_tag(d, T_ZZ);
+    return z < 0 ? d->nl : z;
+}
+
+static void put(Line *l, const Style *s, int nf, const char *a, const char *b, const char *c)
+{
+    l->nf = nf;
+    strcpy(l->f[0], a);
+    strcpy(l->f[1], b);
+    strcpy(l->f[2], c);
+    line_compose(l, s);
+}
+
+/* A sound line of that record. */
+static void plain_record(Line *l, const Style *s, const Net *n)
+{
+    int rn, rk, rx;
+    switch (l->tag) {
+    case T_BA: put(l, s, 1, "1.5", "", ""); break;
+    case T_LU: put(l, s, 2, "0.5", "0.1", ""); break;
+    case T_HC: put(l, s, 1, "2", "", ""); break;
+    case T_RM:
+        if (!rm_pick(n->m, RM_INSIDE, &rn, &rk, &rx))
+            rn = rk = rx = 1;
+        l->nf = 3;
+        number_write(l->f[0], rn, 0, 6, 0);
+        number_write(l->f[1], rk, 2, 8, 0);
+        number_write(l->f[2], rx, 2, 8, 0);
+        line_compose(l, s);
+        break;
+    case T_IT: {
+        l->nf = 4;
+        number_write(l->f[0], n->m, 0, 6, 0);
+        l->f[1][0] = l->f[2][0] = 0;
+        number_write(l->f[3], n->nq, 0, 6, 0);
+        line_compose(l, s);
+        break;
+    }
+    case T_KK: line_name(l, (const unsigned char *)"EXTRA", 5, 10); break;
+    case T_ID: line_text(l, "ID LATE"); break;
+    case T_ZZ: line_text(l, "ZZ"); break;
+    case T_KM: line_text(l, "KM NOTE"); break;
+    default: put(l, s, 1, "1", "", ""); break;     /* PI, UI, QI */
+    }
+}
+
+/* A block of its own, put in before a KK or ZZ; the lines it took. */
+static int block_in(Deck *d, int at, int tag, const Style *s, const char *a, const char *b, const char *c)
+{
+    Line *l = insert(d, at, T_KK);
+    unsigned char name[4];
+    int i, k = between(1, 4);
+    for (i = 0; i < k; i++)
+        name[i] = (unsigned char)between('A', 'Z');
+    line_name(l, name, k, 5);
+    l = insert(d, at + 1, tag);
+    put(l, s, c[0] ? 3 : b[0] ? 2 : 1, a, b, c);
+    return 2;
+}
+
+static int boundary(const Deck *d, int before_first)   /* a KK or ZZ line at random */
+{
+    int i, c = 0, skip = before_first ? 0 : 1;
+    for (i = 0; i < d->nl; i++)
+        c += d->l[i].tag == T_KK || d->l[i].tag == T_ZZ;
+    if (c <= skip)
+        return -1;
+    c = between(skip, c - 1);
+    for (i = 0; i < d->nl; i++)
+        if ((d->l[i].tag == T_KK || d->l[i].tag == T_ZZ) && c-- == 0)
+            return i;
+    return -1;
+}
+
+/* ---- 3: bytes ---- */
+
+static int damage3(Deck *d)
+{
+    static const int foreign[] = { 9, 0x7F, 0x80, 0xA0, 0xFF, 0, 0x1F, 0x0B, 0x0C, 0x1A, 0xC3, 13 };
+    int top = last_line_of_deck(d), at = rnd(top < d->nl ? top + 1 : d->nl), i;
+    if (d->nl == 0)
+        return 0;
+    Line *l = &d->l[at];
+    switch (rnd(8)) {
+    case 0: {                                      /* 81 bytes and more */
+        int to = pct(70) ? 81 : between(81, 170);
+        int fill = l->tag <= T_KK || l->tag == T_ZZ || l->tag == T_KM ? 'X' : ' ';
+        if (pct(50)) fill = ' ';
+        for (i = l->len; i < to; i++) l->t[i] = (unsigned char)fill;
+        if (l->len < to) l->len = to;
+        return 1;
+    }
+    case 1: {                                      /* a line of blanks, 81 long */
+        l = insert(d, at, T_BLANK);
+        memset(l->t, ' ', 81);
+        l->len = 81;
+        return 1;
+    }
+    case 2: {                                      /* a foreign byte on a line of its own */
+        l = insert(d, at, T_OTHER);
+        l->len = pct(50) ? 1 : 3;
+        memset(l->t, ' ', 3);
+        i = rnd(l->len);
+        l->t[i] = (unsigned char)foreign[rnd(COUNT(foreign) - 1)];
+        return 1;
+    }
+    case 3:                                        /* CR CR LF, or CR at the end */
+        if (l->len > 170) return 0;
+        l->t[l->len++] = 13;
+        if (d->eol != 1) l->t[l->len++] = 13;
+        return 1;
+    case 4:                                        /* a lone CR for a line's end */
+        if (l->len > 100 || at + 1 >= d->nl || d->l[at + 1].len > 60) return 0;
+        l->t[l->len] = 13;
+        memcpy(l->t + l->len + 1, d->l[at + 1].t, (size_t)d->l[at + 1].len);
+        l->len += 1 + d->l[at + 1].len;
+        drop(d, at + 1, 1);
+        return 1;
+    case 5:
+    case 6:                                        /* a byte put in */
+        if (l->len > 150) return 0;
+        i = rnd(l->len + 1);
+        memmove(l->t + i + 1, l->t + i, (size_t)(l->len - i));
+        l->t[i] = (unsigned char)foreign[rnd(COUNT(foreign))];
+        l->len++;
+        return 1;
+    default:                                       /* a byte replaced */
+        if (l->len == 0) return 0;
+        i = rnd(l->len);
+        l->t[i] = (unsigned char)(pct(30) ? between(0x7F, 0xFF) : foreign[rnd(COUNT(foreign))]);
+        return 1;
+    }
+}
+
+/* ---- 4: identifiers and controls ---- */
+
+static int damage4(Deck *d)
+{
+    static const char *const odd[] = {
+        "XX 1", "KO 5", "IO 1 2", "JD 1", "BF 1 2", "MA 1", "kk UP", "it 60", "zz", "K", "Z", "*", "**",
+        "*FREE X", "*FREEX", "*FIXED", "*FREE,", "*free", "*Fix", "*FI", "*FR", "* FREE", "*F REE", "*LIST",
+        "*DIAGRAM", "*FREE *FIX", " KK UP", " ZZ", "  ZZ", " *FIX", "K K", ",", "1", ".", "KL", "ZK", "Kk",
+        "IN", "RL 0", "QO 1", "QP 1", "US 1", "UC 1", "PB 1", "DR", "-", "X", "KN NOTE", "/*"
+    };
+    int top = last_line_of_deck(d), at;
+    if (d->nl == 0)
+        return 0;
+    at = rnd(top < d->nl ? top + 1 : d->nl);
+    if (pct(50)) {
+        const char *t = odd[rnd(COUNT(odd))];
+        line_text(insert(d, at, T_OTHER), t);
+        return 1;
+    }
+    Line *l = &d->l[at];
+    switch (rnd(4)) {
+    case 0:                                        /* small letters */
+        if (l->len < 2 || l->tag == T_BLANK) return 0;
+        l->t[0] = (unsigned char)(l->t[0] | 0x20);
+        if (pct(50)) l->t[1] = (unsigned char)(l->t[1] | 0x20);
+        return l->t[0] != '*';
+    case 1:                                        /* moved one column to the right */
+        if (l->len > 79 || l->tag == T_BLANK || l->len < 1) return 0;
+        memmove(l->t + 1, l->t, (size_t)l->len);
+        l->t[0] = ' ';
+        l->len++;
+        return 1;
+    case 2:                                        /* another letter */
+        if (l->len < 2 || l->tag == T_BLANK) return 0;
+        at = rnd(2);
+        l->t[at] = (unsigned char)between('A', 'Z');
+        return 1;
+    default: {                                     /* text after a control */
+        int c = find_tag(d, T_CONTROL);
+        if (c < 0) return 0;
+        l = &d->l[c];
+        if (l->len > 70) l->len = 70;
+        l->t[l->len++] = (unsigned char)between(0x21, 0x7E);
+        return 1;
+    }
+    }
+}
+
+/* ---- 5: records out of place ---- */
+
+static int damage5(Deck *d, const Net *n, const Style *s)
+{
+    static const int data[] = { T_BA, T_PI, T_LU, T_UI, T_QI, T_HC, T_RM };
+    static const int once[] = { T_BA, T_LU, T_HC, T_RM };
+    int it = first_tag(d, T_IT), kk = first_tag(d, T_KK), zz = last_line_of_deck(d), at, i;
+    if (it < 0)
+        return 0;
+    Line *l;
+    switch (rnd(10)) {
+    case 0:                                        /* ID after IT */
+        l = insert(d, between(it + 1, zz), T_ID);
+        line_text(l, pct(50) ? "ID" : "ID TOO LATE");
+        return 1;
+    case 1:                                        /* a second IT */
+        l = insert(d, between(it + 1, zz), T_IT);
+        plain_record(l, s, n);
+        return 1;
+    case 2:                                        /* KK before IT */
+        plain_record(insert(d, rnd(it + 1), T_KK), s, n);
+        return 1;
+    case 3:                                        /* data before IT */
+        at = rnd(it + 1);
+        plain_record(insert(d, at, data[rnd(7)]), s, n);
+        return 1;
+    case 4:                                        /* data between IT and the first KK */
+        if (kk < it) return 0;
+        at = between(it + 1, kk);
+        plain_record(insert(d, at, data[rnd(7)]), s, n);
+        return 1;
+    case 5:                                        /* ZZ before IT */
+        plain_record(insert(d, rnd(it + 1), T_ZZ), s, n);
+        return 1;
+    case 6:                                        /* no IT */
+        drop(d, it, 1);
+        return 1;
+    default:                                       /* a second BA, LU, HC or RM */
+        at = find_tag(d, once[rnd(4)]);
+        if (at < 0) return 0;
+        i = closing_line(d, at);
+        {
+            int tag = d->l[at].tag;
+            Line copy = d->l[at];
+            l = insert(d, between(at + 1, i), tag);
+            if (pct(50) && l->form == copy.form) {
+                l->len = copy.len;
+                memcpy(l->t, copy.t, sizeof copy.t);
+            } else {
+                plain_record(l, s, n);
+            }
+        }
+        return 1;
+    }
+}
+
+/* ---- 6: fields and names ---- */
+
+static const struct { int tag, field; const char *text; } too_fine[] = {
+    { T_IT, 0, "60.0" }, { T_IT, 0, "1.00" }, { T_IT, 3, "4.0" }, { T_IT, 3, "12.00" }, { T_IT, 3, "0.0" },
+    { T_BA, 0, "1.500" }, { T_BA, 0, ".001" }, { T_BA, 0, "1.000" },
+    { T_PI, -1, "0.50000" }, { T_PI, -1, ".00001" }, { T_PI, -1, "1.00000" },
+    { T_LU, 0, ".10000" }, { T_LU, 1, "0.10000" }, { T_LU, 2, "0.000" }, { T_LU, 2, ".000" }, { T_LU, 0, ".00000" },
+    { T_UI, -1, "1.000" }, { T_UI, -1, "0.001" }, { T_QI, -1, "1.000" }, { T_QI, -1, ".125" }, { T_QI, -1, "0.000" },
+    { T_HC, 0, "2.0" }, { T_HC, 0, "2.00" }, { T_RM, 0, "1.0" }, { T_RM, 1, "1.000" }, { T_RM, 2, ".200" },
+    { T_RM, 2, "0.200" }, { T_RM, 2, ".000" }
+};
+
+static const char *const misshapen[] = {
+    "1.2.3", "1-", "+-1", "--1", "1E3", "1e0", ".", "+", "-", "+.", "-.", "1O", "0X1", "1'", "1/2", "$1",
+    "1_0", "1.0.", "..1", "#", "A", "1+", "NAN", "INF", "1.-", "1+1", "*", "(1)", "1;", "one", "1:", "\"1\"",
+    "++1", "1.+", "-1-", "0000000001", "1234567890", "0.000000000", "0000000000", "000000000.1", "+0000000000"
+};
+
+static const char *const misshapen_fixed[] = { "1 2", "1,2", "- 1", ". 5", "1,", ",", ",1", "1 .", "+ 1", "1 0" };
+
+/* the first field that is not named, counted from 0 */
+static int named_fields(int tag)
+{
+    switch (tag) {
+    case T_IT: return 4;
+    case T_BA: case T_HC: return 1;
+    case T_LU: case T_RM: return 3;
+    default: return 10;
+    }
+}
+
+static int set_field(Line *l, const Style *s, int k, const char *text)
+{
+    Line old = *l;
+    while (l->nf <= k)
+        l->f[l->nf++][0] = 0;
+    strcpy(l->f[k], text);
+    touched = l;
+    if (line_compose(l, s))
+        return 1;
+    *l = old;
+    return 0;
+}
+
+static int damage6(Deck *d, const Style *s)
+{
+    static const int data[] = { T_IT, T_BA, T_PI, T_LU, T_UI, T_QI, T_HC, T_RM };
+    static const int scant[] = { T_IT, T_BA, T_LU, T_HC, T_RM };
+    int at, k, i;
+    Line *l;
+    switch (rnd(8)) {
+    case 0:
+    case 1:                                        /* a misshapen number */
+        at = find_tag(d, data[rnd(8)]);
+        if (at < 0) return 0;
+        l = &d->l[at];
+        k = rnd(named_fields(l->tag));
+        if (l->tag == T_IT) k = pct(50) ? 0 : 3;
+        if (named_fields(l->tag) == 10 && l->nf > 0 && pct(80)) k = rnd(l->nf);
+        if (l->form == FIXED && pct(40))
+            return set_field(l, s, k, misshapen_fixed[rnd(COUNT(misshapen_fixed))]);
+        return set_field(l, s, k, misshapen[rnd(COUNT(misshapen))]);
+    case 2:
+    case 3: {                                      /* too many places */
+        int w = rnd(COUNT(too_fine));
+        at = find_tag(d, too_fine[w].tag);
+        if (at < 0) return 0;
+        l = &d->l[at];
+        k = too_fine[w].field;
+        if (k < 0) k = l->nf > 0 ? rnd(l->nf) : rnd(10);
+        return set_field(l, s, k, too_fine[w].text);
+    }
+    case 4:                                        /* a field that is not named */
+        at = find_tag(d, scant[rnd(5)]);
+        if (at < 0) return 0;
+        l = &d->l[at];
+        k = between(named_fields(l->tag), 9);
+        if (pct(40)) k = named_fields(l->tag);
+        return set_field(l, s, k, pct(40) ? "0" : pct(50) ? "1" : pct(50) ? "X" : ".");
+    case 5:                                        /* eleven fields */
+        at = find_tag(d, data[rnd(8)]);
+        if (at < 0) return 0;
+        l = &d->l[at];
+        if (l->form != FREE) return 0;
+        if (named_fields(l->tag) == 10 && pct(70)) {
+            Line old = *l;
+            for (i = 0; i < 11; i++)
+                strcpy(l->f[i], pct(70) || i == 10 ? (pct(50) ? "0" : "1") : "");
+            l->nf = 11;
+            if (line_compose(l, s)) return 1;
+            *l = old;
+            return 0;
+        }
+        return set_field(l, s, 10, pct(50) ? "0" : "1");
+    default:                                       /* bad names */
+        at = find_tag(d, T_KK);
+        if (at < 0) return 0;
+        l = &d->l[at];
+        if (l->form == FREE) {
+            static const char *const bad[] = {
+                "KK", "KK     ", "KK,UP", "KK ,", "KK , UP", "KK SEVENCH", "KKSEVENCH", "KK ABCDEFG,", "KK,", "KK ABCDEFGHIJKL TEXT",
+                "KK   ,A"
+            };
+            line_text(l, bad[rnd(COUNT(bad))]);
+        } else {
+            static const char *const bad[] = {
+                "KK", "KK   ", "KK A B", "KKA B", "KK UP RIVER", "KK      UP", "KKA    B", "KK A B  TEXT", "KKABCD E", "KK , ,", "KK       NAME"
+            };
+            line_text(l, bad[rnd(COUNT(bad))]);
+        }
+        return 1;
+    }
+}
+
+/* ---- 7: limits ---- */
+
+static const struct { int tag, field; const char *text; } outside[] = {
+    { T_IT, 0, "0" }, { T_IT, 0, "1441" }, { T_IT, 0, "-1" }, { T_IT, 0, "" }, { T_IT, 0, "999999" }, { T_IT, 0, "-60" },
+    { T_IT, 3, "0" }, { T_IT, 3, "301" }, { T_IT, 3, "" }, { T_IT, 3, "-4" }, { T_IT, 3, "+301." }, { T_IT, 3, "999999" },
+    { T_IT, 0, "999999999" }, { T_IT, 3, "999999999" },
+    { T_BA, 0, "0" }, { T_BA, 0, "0.00" }, { T_BA, 0, "" }, { T_BA, 0, "10000" }, { T_BA, 0, "-.01" }, { T_BA, 0, "-1" },
+    { T_BA, 0, "999999" }, { T_BA, 0, "9999999.99" }, { T_BA, 0, "10000.00" },
+    { T_PI, -1, "20.0001" }, { T_PI, -1, "-.0001" }, { T_PI, -1, "21" }, { T_PI, -1, "-20" }, { T_PI, -1, "99999.9999" },
+    { T_LU, 0, "20.0001" }, { T_LU, 0, "20.1" }, { T_LU, 0, "-.0001" }, { T_LU, 0, "999999999" },
+    { T_LU, 1, "20.0001" }, { T_LU, 1, "-1" }, { T_LU, 1, "100" }, { T_LU, 1, "-.0001" },
+    { T_LU, 2, ".01" }, { T_LU, 2, "1" }, { T_LU, 2, "100" }, { T_LU, 2, "-.01" }, { T_LU, 2, "-1" },
+    { T_UI, -1, "100000" }, { T_UI, -1, "-.01" }, { T_UI, -1, "100000.00" }, { T_UI, -1, "-5" }, { T_UI, -1, "999999999" },
+    { T_QI, -1, "100000.01" }, { T_QI, -1, "100001" }, { T_QI, -1, "-.01" }, { T_QI, -1, "-1" }, { T_QI, -1, "9999999.99" },
+    { T_HC, 0, "1" }, { T_HC, 0, "6" }, { T_HC, 0, "0" }, { T_HC, 0, "" }, { T_HC, 0, "-2" }, { T_HC, 0, "999999999" },
+    { T_RM, 0, "0" }, { T_RM, 0, "51" }, { T_RM, 0, "" }, { T_RM, 0, "-1" }, { T_RM, 0, "999999" },
+    { T_RM, 1, "0" }, { T_RM, 1, "24.01" }, { T_RM, 1, "" }, { T_RM, 1, "-1.00" }, { T_RM, 1, "25" },
+    { T_RM, 2, ".51" }, { T_RM, 2, "1" }, { T_RM, 2, "-.01" }, { T_RM, 2, "50" }, { T_RM, 2, "0.60" }
+};
+
+static int damage7(Deck *d, const Style *s)
+{
+    int w = rnd(COUNT(outside));
+    int at = find_tag(d, outside[w].tag);
+    if (at < 0)
+        return 0;
+    Line *l = &d->l[at];
+    int k = outside[w].field;
+    if (k < 0)
+        k = l->nf > 0 && pct(90) ? rnd(l->nf) : rnd(10);
+    return set_field(l, s, k, outside[w].text);
+}
+
+/* ---- 8: too many values ---- */
+
+static int damage8(Deck *d, const Net *n, const Style *s)
+{
+    static const int lists[] = { T_PI, T_UI, T_QI };
+    int tag = lists[rnd(3)], at = find_tag(d, tag), have = 0, i, k;
+    int top = tag == T_UI ? LIMIT_UNITS : n->nq;
+    if (at < 0 && pct(50))
+        at = find_tag(d, T_HC);                    /* even in a block that holds no list */
+    if (at < 0)
+        return 0;
+    if (top > 60 && !pct(tag == T_UI ? 60 : 25))
+        return 0;
+    int end = closing_line(d, at);
+    for (i = at; i > 0 && d->l[i].tag != T_KK; i--)
+        ;
+    for (i = i + 1; i < end; i++)
+        if (d->l[i].tag == tag)
+            have += d->l[i].nf;
+    at = between(at + 1, end);
+    int goal = top + 1 + (pct(30) ? rnd(25) : 0);
+    while (have < goal) {
+        Line *l = insert(d, at, tag);
+        int c = goal - have < 10 ? goal - have : between(1, 10);
+        if (pct(60)) c = goal - have < 10 ? goal - have : 10;
+        for (k = 0; k < c; k++)
+            strcpy(l->f[k], k + 1 < c && pct(30) ? "" : pct(50) ? "0" : "1");
+        l->nf = c;
+        line_compose(l, s);
+        have += c;
+        at++;
+    }
+    return 1;
+}
+
+/* ---- 9: sets ---- */
+
+static int damage9(Deck *d, const Net *n, const Style *s)
+{
+    static const int data[] = { T_BA, T_PI, T_LU, T_UI, T_QI, T_HC, T_RM };
+    int kk = find_tag(d, T_KK), end, i, has[T_ZZ + 1] = { 0 }, tag;
+    if (kk < 0)
+        return 0;
+    end = closing_line(d, kk + 1);
+    for (i = kk + 1; i < end; i++)
+        if (d->l[i].tag <= T_ZZ)
+            has[d->l[i].tag] = 1;
+    switch (rnd(4)) {
+    case 0:                                        /* nothing but KK */
+        for (i = end - 1; i > kk; i--)
+            if (d->l[i].tag >= T_BA && d->l[i].tag <= T_RM)
+                drop(d, i, 1);
+        return 1;
+    case 1:                                        /* one of the set taken away */
+        tag = data[rnd(7)];
+        if (!has[tag] || (tag == T_BA && has[T_QI])) return 0;
+        for (i = end - 1; i > kk; i--)
+            if (d->l[i].tag == tag)
+                drop(d, i, 1);
+        return 1;
+    case 2:                                        /* a foreign one put in */
+        tag = data[rnd(7)];
+        if (has[tag] || (tag == T_BA && has[T_QI])) return 0;
+        plain_record(insert(d, between(kk + 1, end), tag), s, n);
+        return 1;
+    default:                                       /* a new block with part of a set */
+        i = boundary(d, 1);
+        if (i < 0) return 0;
+        plain_record(insert(d, i++, T_KK), s, n);
+        tag = rnd(128);
+        for (kk = 0; kk < 7; kk++)
+            if (tag >> kk & 1)
+                plain_record(insert(d, i++, data[kk]), s, n);
+        return tag != 0x0F && tag != 0x10 && tag != 0x11 && tag != 0x20 && tag != 0x40;
+    }
+}
+
+/* ---- 10 to 15: held hydrographs, water, blocks ---- */
+
+static int held_before(const Net *n, int pos)
+{
+    int i, h = 0;
+    for (i = 0; i < pos && i < n->nb; i++) {
+        const Block *b = &n->b[n->order[i]];
+        h += b->kind <= 2 ? 1 : b->kind == 3 ? 1 - b->hc : 0;
+    }
+    return h;
+}
+
+static int damage10(Deck *d, const Net *n, const Style *s)
+{
+    static const char *const count[] = { "2", "3", "4", "5" };
+    int at, h, rn = 1, rk = 1, rx = 0;
+    char a[16], b[16], c[16];
+    switch (rnd(4)) {
+    case 0:                                        /* the first block takes */
+        at = first_tag(d, T_KK);
+        if (at < 0) return 0;
+        if (pct(50)) {
+            block_in(d, at, T_HC, s, count[rnd(4)], "", "");
+        } else {
+            rm_pick(n->m, pct(50) ? RM_INSIDE : RM_UNDER, &rn, &rk, &rx);
+            number_write(a, rn, 0, 6, 0);
+            number_write(b, rk, 2, 8, 0);
+            number_write(c, rx, 2, 8, 0);
+            block_in(d, at, T_RM, s, a, b, c);
+        }
+        return 1;
+    case 1:                                        /* a confluence asks for more */
+        at = find_tag(d, T_HC);
+        if (at < 0) return 0;
+        h = held_before(n, d->l[at].blk);
+        if (h >= 5) return 0;
+        return set_field(&d->l[at], s, 0, count[between(h < 1 ? 2 : h + 1, 5) - 2]);
+    case 2: {                                      /* a block is missing */
+        at = find_tag(d, T_KK);
+        if (at < 0) return 0;
+        h = closing_line(d, at + 1);
+        drop(d, at, h - at);
+        return 1;
+    }
+    default:                                       /* a confluence put in where one is held */
+        at = boundary(d, 0);
+        if (at < 0) return 0;
+        block_in(d, at, T_HC, s, count[rnd(4)], "", "");
+        return 1;
+    }
+}
+
+static int storm_block(Deck *d, int at, const Net *n, const Style *s, const char *p1, const char *p2,
+                       const char *u1, const char *u2)
+{
+    Line *l = insert(d, at, T_KK);
+    line_name(l, (const unsigned char *)"STORM", 5, 5);
+    plain_record(insert(d, at + 1, T_BA), s, n);
+    line_text(insert(d, at + 2, T_LU), "LU");
+    put(insert(d, at + 3, T_PI), s, p2[0] ? 2 : 1, p1, p2, "");
+    put(insert(d, at + 4, T_UI), s, u2[0] ? 2 : 1, u1, u2, "");
+    return 5;
+}
+
+static int damage11(Deck *d, const Net *n, const Style *s)
+{
+    int at = boundary(d, 1), h, more;
+    if (at < 0)
+        return 0;
+    h = d->l[at].tag == T_KK ? held_before(n, d->l[at].blk) : 1;
+    more = pct(70) ? LIMIT_HELD + 1 - h : LIMIT_HELD + 1;
+    if (h < 0 || more < 1)
+        return 0;
+    if (pct(10)) more = LIMIT_HELD - h;            /* just not enough: then 15 */
+    while (more-- > 0)
+        at += more == 0 && pct(15) ? storm_block(d, at, n, s, "20", "", "99999", "")   /* over the limit too */
+            : block_in(d, at, T_QI, s, "1", pct(30) ? "2" : "", "");
+    return 1;
+}
+
+static int damage12(Deck *d, const Net *n, const Style *s)
+{
+    int rn, rk, rx, at;
+    char a[16], b[16], c[16];
+    if (!rm_pick(n->m, pct(50) ? RM_UNDER : RM_OVER, &rn, &rk, &rx))
+        return 0;
+    number_write(a, rn, 0, 6, 0);
+    number_write(b, rk, 2, 6, 0);
+    number_write(c, rx, 2, 6, 0);
+    at = find_tag(d, T_RM);
+    if (at >= 0 && pct(60)) {
+        Line *l = &d->l[at];
+        Line old = *l;
+        l->nf = 3;
+        strcpy(l->f[0], a);
+        strcpy(l->f[1], b);
+        strcpy(l->f[2], c);
+        if (line_compose(l, s)) return 1;
+        *l = old;
+        return 0;
+    }
+    at = boundary(d, 0);
+    if (at < 0)
+        return 0;
+    block_in(d, at, T_RM, s, a, b, c);
+    return 1;
+}
+
+static int damage13(Deck *d, const Net *n, const Style *s)
+{
+    int at = boundary(d, 1), i;
+    if (at < 0)
+        return 0;
+    if (pct(50)) {                                 /* confluence */
+        static const char *const parts[][3] = {
+            { "50000", "50000.01", "" }, { "100000", "0.01", "" }, { "99999.99", ".02", "" }, { "60000", "70000", "" },
+            { "100000", "100000", "100000" }, { "33333.33", "33333.34", "33333.34" }, { "0", "100000", ".01" }
+        };
+        int w = rnd(7), c = parts[w][2][0] ? 3 : 2;
+        for (i = 0; i < c; i++) {
+            Line *l = insert(d, at++, T_KK);
+            line_name(l, (const unsigned char *)"BIG", 3, 5);
+            l = insert(d, at++, T_QI);
+            if (n->nq > 1)
+                put(l, s, 2, "", parts[w][i], "");
+            else
+                put(l, s, 1, i == 0 ? "100000" : "1", "", "");
+        }
+        block_in(d, at, T_HC, s, c == 2 ? "2" : "3", "", "");
+        return 1;
+    }
+    if (n->nq == 1) {
+        storm_block(d, at, n, s, "20", "", pct(50) ? "5001" : "99999", "");
+        return 1;
+    }
+    switch (rnd(5)) {                              /* runoff, in one product or added up */
+    case 0: storm_block(d, at, n, s, "20", "", "", "5000.01"); break;
+    case 1: storm_block(d, at, n, s, "15", "", "", "6666.67"); break;
+    case 2: storm_block(d, at, n, s, "1", "1", "50000", "50000.01"); break;
+    case 3: storm_block(d, at, n, s, "1", "0.0001", "99999", "99999.99"); break;
+    default: storm_block(d, at, n, s, "20", "20", "99999", "99999.99"); break;
+    }
+    return 1;
+}
+
+static int damage14(Deck *d, const Net *n, const Style *s)
+{
+    int kk = 0, i, at = last_line_of_deck(d), rn = 1, rk = 1, rx = 0;
+    char a[16], b[16], c[16];
+    for (i = 0; i < d->nl; i++)
+        kk += d->l[i].tag == T_KK;
+    if (kk < 150)
+        return 0;
+    rm_pick(n->m, RM_INSIDE, &rn, &rk, &rx);
+    number_write(a, rn, 0, 6, 0);
+    number_write(b, rk, 2, 6, 0);
+    number_write(c, rx, 2, 6, 0);
+    while (kk <= LIMIT_BLOCKS) {
+        at += block_in(d, at, T_RM, s, a, b, c);
+        kk++;
+    }
+    if (pct(20)) line_text(&d->l[at - 1], "RM 99");
+    if (pct(15) && at >= 4 && d->l[at - 4].tag == T_KK)   /* the block before is at fault as well */
+        line_text(&d->l[at - 3], pct(50) ? "HC 5" : "KM");
+    if (pct(10)) line_text(&d->l[at - 2], d->l[at - 2].form == FREE ? "KK ,A" : "KK A B");
+    return 1;
+}
+
+static int damage15(Deck *d, const Net *n, const Style *s)
+{
+    int at = last_line_of_deck(d), kk = -1, i;
+    (void)n;
+    switch (rnd(4)) {
+    case 0:                                        /* one more at the end */
+        i = between(1, 3);
+        while (i-- > 0)
+            at += block_in(d, at, T_QI, s, "1", "", "");
+        return 1;
+    case 1:                                        /* the last block taken away */
+        for (i = 0; i < at; i++)
+            if (d->l[i].tag == T_KK)
+                kk = i;
+        if (kk < 0) return 0;
+        drop(d, kk, at - kk);
+        return 1;
+    case 2:                                        /* no block at all */
+        kk = first_tag(d, T_KK);
+        if (kk < 0 || !pct(30)) return 0;
+        drop(d, kk, at - kk);
+        return 1;
+    default:                                       /* a hydrograph nobody takes */
+        at = boundary(d, 1);
+        if (at < 0) return 0;
+        block_in(d, at, T_QI, s, "2", "", "");
+        return 1;
+    }
+}
+
+static int damage16(Deck *d)
+{
+    int at = first_tag(d, T_ZZ);
+    if (at < 0)
+        return 0;
+    d->ntail = 0;
+    switch (rnd(4)) {
+    case 0:
+        drop(d, at, 1);
+        return d->nl > 0;
+    case 1:
+        line_text(&d->l[at], pct(50) ? "KM ZZ" : "");
+        d->l[at].tag = T_KM;
+        return 1;
+    case 2:                                        /* cut off anywhere */
+        d->nl = between(1, at);
+        return 1;
+    default: {
+        int i = first_tag(d, T_IT);
+        if (i < 0 || at <= i) return 0;
+        d->nl = between(i + 1, at);
+        return 1;
+    }
+    }
+}
+
+static int damage2(Deck *d)
+{
+    int over = pct(50) ? 1 : pct(80) ? between(1, 100) : between(1, 3000);
+    deck_fill(d, LIMIT_BYTES + over, rnd(4));
+    return 1;
+}
+
+/* Tries causes of that refusal until one can be brought about. */
+int damage(Deck *d, const Net *n, const Style *s, int number)
+{
+    int tries, done = 0;
+    touched = NULL;
+    for (tries = 0; tries < 40 && !done; tries++) {
+        switch (number) {
+        case 2: done = damage2(d); break;
+        case 3: done = damage3(d); break;
+        case 4: done = damage4(d); break;
+        case 5: done = damage5(d, n, s); break;
+        case 6: done = damage6(d, s); break;
+        case 7: done = damage7(d, s); break;
+        case 8: done = damage8(d, n, s); break;
+        case 9: done = damage9(d, n, s); break;
+        case 10: done = damage10(d, n, s); break;
+        case 11: done = damage11(d, n, s); break;
+        case 12: done = damage12(d, n, s); break;
+        case 13: done = damage13(d, n, s); break;
+        case 14: done = damage14(d, n, s); break;
+        case 15: done = damage15(d, n, s); break;
+        case 16: done = damage16(d); break;
+        default: return 0;
+        }
+    }
+    return done;
+}
+
+/* A second fault on the line damaged last, or on the line that closes its
+   block: which of two refusals on one line is answered. */
+int damage_more(Deck *d, const Style *s)
+{
+    Line *l = touched;
+    int at, i, k;
+    if (l == NULL || l < d->l || l >= d->l + d->nl)
+        return 0;
+    at = (int)(l - d->l);
+    if (pct(40)) {
+        at = closing_line(d, at + 1);
+        if (at >= d->nl)
+            return 0;
+        l = &d->l[at];
+    }
+    switch (rnd(5)) {
+    case 0:                                        /* 3 */
+        if (l->len > 150) return 0;
+        i = rnd(l->len + 1);
+        memmove(l->t + i + 1, l->t + i, (size_t)(l->len - i));
+        l->t[i] = pct(50) ? 9 : 0x80;
+        l->len++;
+        return 1;
+    case 1:
+        while (l->len < 81)
+            l->t[l->len++] = ' ';
+        return 1;
+    case 2:                                        /* 4 */
+        if (l->len < 2) return 0;
+        l->t[rnd(2)] = 'x';
+        return 1;
+    case 3:                                        /* 6 */
+        if (l->tag == T_KK) {
+            line_text(l, l->form == FREE ? "KK ,A" : "KK A B");
+            return 1;
+        }
+        if (l->tag < T_IT || l->tag > T_RM || l->tag == T_KM) return 0;
+        if (l->form == FREE && pct(30))
+            return set_field(l, s, 10, "1");
+        k = pct(50) ? rnd(10) : rnd(named_fields(l->tag));
+        return set_field(l, s, k, misshapen[rnd(COUNT(misshapen))]);
+    default:                                       /* 7 */
+        i = rnd(COUNT(outside));
+        if (outside[i].tag != l->tag) return 0;
+        k = outside[i].field;
+        return set_field(l, s, k < 0 ? rnd(10) : k, outside[i].text);
+    }
+}
+
+/* ---- blind mutations ---- */
+
+int deck_mutate_lines(Deck *d)
+{
+    int at, o;
+    if (d->nl < 2)
+        return 0;
+    at = rnd(d->nl);
+    switch (rnd(6)) {
+    case 0:
+        drop(d, at, 1);
+        return 1;
+    case 1: {
+        Line copy = d->l[at];
+        Line *l = insert(d, pct(50) ? at : rnd(d->nl + 1), copy.tag);
+        int blk = l->blk;
+        *l = copy;
+        l->blk = blk;
+        return 1;
+    }
+    case 2:
+    case 3:
+        o = pct(60) ? (at + 1) % d->nl : rnd(d->nl);
+        {
+            Line t = d->l[at];
+            d->l[at] = d->l[o];
+            d->l[o] = t;
+        }
+        return 1;
+    case 4:                                        /* the other form */
+        o = find_tag(d, T_CONTROL);
+        if (o >= 0 && pct(50))
+            drop(d, o, 1);
+        else
+        {
+            int free_form = d->l[at].form == FREE;
+            line_text(insert(d, at, T_CONTROL), free_form ? "*FIX" : "*FREE");
+        }
+        return 1;
+    default: {                                     /* two lines run together */
+        if (at + 1 >= d->nl || d->l[at].len + d->l[at + 1].len > 170) return 0;
+        Line *l = &d->l[at];
+        memcpy(l->t + l->len, d->l[at + 1].t, (size_t)d->l[at + 1].len);
+        l->len += d->l[at + 1].len;
+        drop(d, at + 1, 1);
+        return 1;
+    }
+    }
+}
+
+int bytes_mutate(unsigned char *b, int n)
+{
+    static const char likely[] = "0123456789.,,, +-KZIQPUBHRML*FX\n\n\r";
+    int at;
+    if (n == 0)
+        return 0;
+    at = rnd(n);
+    switch (rnd(7)) {
+    case 0:
+        b[at] = (unsigned char)(b[at] ^ (1 << rnd(8)));
+        return n;
+    case 1:
+        b[at] = (unsigned char)rnd(256);
+        return n;
+    case 2:
+    case 3:
+        b[at] = (unsigned char)likely[rnd((int)sizeof likely - 1)];
+        return n;
+    case 4:
+        memmove(b + at, b + at + 1, (size_t)(n - at - 1));
+        return n - 1;
+    case 5:
+        memmove(b + at + 1, b + at, (size_t)(n - at));
+        b[at] = (unsigned char)likely[rnd((int)sizeof likely - 1)];
+        return n + 1;
+    default:
+        return pct(20) ? at : n - 1;               /* cut off */
+    }
+}
+
+/* ---- decks that hardly are decks ---- */
+
+static const struct { const char *text; int n; } scraps[] = {
+#define S(x) { x, (int)sizeof(x) - 1 }
+    S(""), S("\n"), S("\r\n"), S("\r"), S(" "), S("   \n\n  \r\n"), S("ZZ"), S("ZZ\n"), S("ID\nZZ\n"), S("Z"), S("\n\n\nZZ"),
+    S("*FREE"), S("*FIX\n"), S("*FREE\n*FIX\n*FREE\n"), S("KM\n"), S("KM\nKM\nKM"), S("ID\n"), S("ID"), S("ID X\nIT"), S("IT"),
+    S("*FREE\nIT 60,,,4"), S("*FREE\nIT 60,,,4\n"), S("*FREE\nIT 60,,,4\nZZ"), S("ID\n*FREE\nIT 60,,,4\nZZ\n"),
+    S("*FREE\nIT 60,,,4\nKK A"), S("*FREE\nIT 60,,,4\nKK A\nZZ"), S("*FREE\nIT 60,,,4\nKK A\nQI"), S("*FREE\nIT 60,,,4\nKK A\nQI\nZZ"),
+    S("*FREE\nIT1,,,1\nKKA\nQI\nZZ"), S("IT     1                       1\nKK     A\nQI     1\nZZ"), S("\0"), S("ZZ\0"), S("ZZ\n\0\xFF"),
+    S("*FREE\nIT 60,,,4\nKK A\nHC 2\nZZ"), S("*FREE\nIT 60,,,4\nKK A\nRM 1,1.00,0.20\nZZ"), S("*FREE\nIT 60 0 0 4\nKK A\nQI 1 2 3 4 5\nZZ"),
+    S("*FREE\nIT 60 4\nKK A\nQI 1\nZZ"), S("*FREE\nIT60,,,4\nKKA\nBA1\nPI\nLU\nUI\nZZ"), S("*FREE \nIT ,,,4\nKK A\nQI 1\nZZ"),
+    S("*FREE\nIT 60.,,,4.\nKK A\nQI 1\nZZ"), S("*FREE\nIT 60.0,,,4\nKK A\nQI 1\nZZ"), S("*FREE\nIT 60,,,4,,,,,,,,,,\nKK A\nQI ,,,1\nZZ"),
+    S("*FREE\nIT 60,,,4\nKK A\nQI ,,,,1\nZZ"), S("*FREE\nIT 60,,,4\nKK A\nQI ,,,,\nZZ"), S("*FREE\nIT 60,,,4\nKK A\nQI , , ,1\nZZ"),
+    S("*FREE\nIT 60,,,4\nKK A\nQI 1 , , 2\nZZ"), S("*FREE\nIT 60,,,4\nKK A\nQI 1 ,, 2\nZZ"), S("*FREE\nIT 60,,,3\nKK A\nQI 1 , 2 , 3\nZZ"),
+    S("*FREE\nIT 60,,,4\nKK A\nRM 1,1,.2\nKK B\nQI 1\nZZ"), S("IT    60               4\nKK A\nQI 1\nZZ"), S("ID\nKK A\nIT 60,,,4\n"),
+    S("*FREE\r\nIT 60,,,4\r\nKK A\r\nQI 1\r\nZZ\r"), S("*FREE\r\nIT 60,,,4\r\nKK A\r\nQI 1\r\nZZ\r\n"), S("ZZ\r"), S("ID\r\r\nZZ"),
+    S("*FREE\nIT 60,,,4\nKK A\nQI 1\nZZ\nZZ\nZZ"), S("*FREE\nIT 60,,,4\nIT 60,,,4\nKK A\nQI 1\nZZ"), S("*FREE\nIT 60,,,4\nID\nKK A\nQI 1\nZZ"),
+    S("*FREE\nIT 60,,,4\nKK A\nQI 1,2\nQI\nQI 3\nZZ"), S("*FREE\nIT 60,,,4\nKK A\nQI 1,2\nQI 3,4,5\nZZ"), S("*FREE\nIT 60,,,4\nZZ A\nKK"),
+    S("*FREE\nIT 60,,,4\nKK A\nBA 1\nQI 1\nZZ"), S("*FREE\nIT 60,,,4\nKK A\nBA 1\nZZ"), S("*FREE\nIT 60,,,4\nKK A\nBA 1\nBA 1\nZZ"),
+    S("*FREE\nIT 60,,,4\nKK A\nBA 1,,,,\nPI 1\nLU ,,0\nUI 1\nZZ"), S("*FREE\nIT 60,,,4\nKK A\nBA 1\nPI 1,,2\nLU\nUI 1\nZZ"),
+    S("*FREE\nIT 60,,,4\nKK A\nQI 100000\nZZ"), S("*FREE\nIT 60,,,4\nKK A\nQI 100000.01\nZZ"), S("*FREE\nIT 60,,,4\nKK A\nQI -0\nZZ"),
+    S("*FREE\nIT 60,,,4\nKK A\nQI 7,7,7,7\nKK B\nRM 1,1.00,0.20\nZZ"), S("*FREE\nIT 60,,,4\nKK A\nQI 1,2,3\nKK B\nRM 1,1.00,0.50\nZZ"),
+    S("*FREE\nIT 60,,,4\nKK A\nQI 1,2,3\nKK B\nRM 1,0.50,0.20\nZZ"),
+    S("ID POND\n*FREE\nIT 60,,,4\nKK UP\nBA 1.50\nPI 0.50,0.30,0.10\nLU 0.50,0.10\nUI 10,4\nKK RIV\nRM 1,1.00,0.20\nKK SIDE\nQI 1,2,2,1\nKK OUT\nHC 2\nZZ\n")
+#undef S
+};
+
+int degenerate(unsigned char *out)
+{
+    int w = rnd(COUNT(scraps) + 2), n, i;
+    if (pct(3)) {                                  /* one long line, or nothing but line ends */
+        static const int sizes[] = { 81, 82, 59999, 60000, 60001 };
+        n = sizes[rnd(5)];
+        memset(out, pct(50) ? ' ' : pct(50) ? 'K' : '\n', (size_t)n);
+        return n;
+    }
+    if (w < COUNT(scraps)) {
+        memcpy(out, scraps[w].text, (size_t)scraps[w].n);
+        return scraps[w].n;
+    }
+    n = between(0, 200);                           /* noise */
+    int printable = pct(50);
+    for (i = 0; i < n; i++)
+        out[i] = (unsigned char)(printable ? pct(10) ? '\n' : between(0x20, 0x7E) : rnd(256));
+    return n;
+}

@@ -1,0 +1,577 @@
+/* Random networks: blocks, their values and the order in which they stand.
+   Every value keeps the limits of document 01, unless flows are to be wild. */
+#include <string.h>
+#include "decks.h"
+
+static uint64_t state;
+
+static uint64_t mix(uint64_t z)
+{
+    z = (z ^ (z >> 30)) * UINT64_C(0xBF58476D1CE4E5B9);
+    z = (z ^ (z >> 27)) * UINT64_C(0x94D049BB133111EB);
+    return z ^ (z >> 31);
+}
+
+uint64_t rng_next(void)
+{
+    state += UINT64_C(0x9E3779B97F4A7C15);
+    return mix(state);
+}
+
+void rng_seed(uint64_t seed, uint64_t stream)
+{
+    state = mix(seed + UINT64_C(0x632BE59BD9B4E019));
+    state ^= mix(stream * UINT64_C(0xD1342543DE82EF95) + 1);
+    rng_next();
+}
+
+int rnd(int n)
+{
+    return n <= 1 ? 0 : (int)((rng_next() >> 11) % (uint64_t)n);
+}
+
+int between(int lo, int hi)
+{
+    return lo + rnd(hi - lo + 1);
+}
+
+int pct(int p)
+{
+    return rnd(100) < p;
+}
+
+static int least(int a, int b)
+{
+    return a < b ? a : b;
+}
+
+int pick_minutes(void)
+{
+    static const int usual[] = { 1, 5, 6, 10, 15, 20, 30, 60, 60, 60, 120, 180, 360, 720, 1440 };
+    if (pct(75))
+        return usual[rnd((int)(sizeof usual / sizeof usual[0]))];
+    return between(1, 1440);
+}
+
+int pick_nq(int top)
+{
+    switch (rnd(12)) {
+    case 0: return 1;
+    case 1: return top;
+    case 2: return 300;
+    default: return between(1, top);
+    }
+}
+
+/* ---- routing parameters ---- */
+
+static int rm_inside(int m, int *rn, int *rk, int *rx)
+{
+    int top = least(50, 2880 / m);
+    int n = pct(60) ? between(1, least(top, 4)) : between(1, top);
+    if (pct(8))
+        n = top;
+    int x = between(0, 50);
+    if (pct(10)) x = 0;
+    if (pct(10)) x = 50;
+    int a = 250 * n * m;
+    int lo = (a + 3 * (100 - x) - 1) / (3 * (100 - x));
+    int hi = x > 0 ? a / (3 * x) : 2400;
+    if (lo < 1) lo = 1;
+    if (hi > 2400) hi = 2400;
+    if (lo > hi)
+        return 0;
+    *rn = n;
+    *rx = x;
+    *rk = between(lo, hi);
+    if (pct(10)) *rk = lo;
+    if (pct(10)) *rk = hi;
+    return 1;
+}
+
+/* Parameters inside the two inequalities, at a border, or just outside one. */
+int rm_pick(int m, int how, int *rn, int *rk, int *rx)
+{
+    int tries;
+    if (how == RM_INSIDE) {
+        for (tries = 0; tries < 200; tries++)
+            if (rm_inside(m, rn, rk, rx))
+                return 1;
+        return 0;
+    }
+    for (tries = 0; tries < 400; tries++) {
+        int n = between(1, 50);
+        int x = how == RM_LAG ? 50 : between(0, 50);
+        if (pct(50)) n = between(1, 5);
+        int a = 250 * n * m, k;
+        if (how == RM_LOW || how == RM_LAG || how == RM_UNDER) {
+            int c = 3 * (100 - x);                 /* A = C, or A over C */
+            k = a / c;
+            if (how != RM_UNDER && a % c != 0)
+                continue;
+            if (how == RM_UNDER) {
+                if (a % c == 0) k--;
+                if (k > 2400) k = 2400;
+                if (k > 1 && pct(30)) k = between(1, k);
+            }
+        } else {
+            int b = 3 * x;                         /* B = A, or B over A */
+            if (x == 0)
+                continue;
+            k = a / b;
+            if (how == RM_HIGH && a % b != 0)
+                continue;
+            if (how == RM_OVER) {
+                k++;
+                if (k < 2400 && pct(30)) k = between(k, 2400);
+            }
+        }
+        if (k < 1 || k > 2400)
+            continue;
+        *rn = n;
+        *rk = k;
+        *rx = x;
+        return 1;
+    }
+    return 0;
+}
+
+/* ---- leaves ---- */
+
+static int any_area(void)
+{
+    switch (rnd(12)) {
+    case 0: return 1;
+    case 1: return LIMIT_BA;
+    case 2: return between(1, LIMIT_BA);
+    case 3: return 100 * between(1, 9999);
+    default: return between(1, 99999);
+    }
+}
+
+static void runoff(Net *n, Block *b, int maxlist, int64_t budget, int wild)
+{
+    static const int tops[] = { 1, 7, 100, 2500, 10000, 10000, 30000, 200000 };
+    int i, total = 0, most = least(n->nq, maxlist);
+    int pmax = tops[rnd(8)];
+    b->kind = 1;
+    b->has_ba = 1;
+    b->ba = any_area();
+    b->npi = pct(4) ? 0 : between(1, most);
+    if (pct(10)) b->npi = most;
+    for (i = 0; i < b->npi; i++) {
+        int r = rnd(10);
+        b->pi[i] = r < 3 ? 0 : r < 4 ? pmax : between(0, pmax);
+    }
+    most = least(LIMIT_UNITS, maxlist);
+    b->nui = pct(4) ? 0 : between(1, most);
+    if (pct(5)) b->nui = most;
+    int64_t umax = budget / ((int64_t)60 * pmax * (b->nui > 0 ? b->nui : 1));
+    if (wild || umax > LIMIT_UI) umax = LIMIT_UI;
+    for (i = 0; i < b->nui; i++) {
+        int r = rnd(10);
+        b->ui[i] = r < 2 ? 0 : r < 3 ? (int)umax : between(0, (int)umax);
+    }
+    if (pct(8)) {                                  /* floods that fall beyond the last ordinate */
+        for (i = 0; i < b->npi && b->pi[i] == 0; i++)
+            ;
+        for (i = n->nq - i; i >= 0 && i < b->nui; i++)
+            b->ui[i] = LIMIT_UI;
+    }
+    int stop = rnd(b->npi + 1);
+    for (i = 0; i < stop; i++)
+        total += b->pi[i];
+    switch (rnd(12)) {
+    case 0: case 1: case 2: b->lu1 = 0; break;
+    case 3: case 4: b->lu1 = total; break;
+    case 5: b->lu1 = total - 1; break;
+    case 6: b->lu1 = total + 1; break;
+    case 7: b->lu1 = LIMIT_PI; break;
+    case 8: b->lu1 = between(0, LIMIT_PI); break;
+    default: b->lu1 = between(0, pmax); break;
+    }
+    if (b->lu1 < 0) b->lu1 = 0;
+    if (b->lu1 > LIMIT_PI) b->lu1 = LIMIT_PI;
+    int p = b->npi > 0 ? b->pi[rnd(b->npi)] : 0;
+    int64_t even = (int64_t)60 * p / n->m;
+    switch (rnd(12)) {
+    case 0: case 1: case 2: b->lu2 = 0; break;
+    case 3: b->lu2 = 1; break;
+    case 4: b->lu2 = LIMIT_PI; break;
+    case 5: b->lu2 = between(0, LIMIT_PI); break;
+    case 6: case 7: b->lu2 = even > LIMIT_PI ? LIMIT_PI : (int)even; break;
+    default: b->lu2 = even > 0 ? between(0, even > LIMIT_PI ? LIMIT_PI : (int)even) : 0; break;
+    }
+}
+
+static void inflow(Net *n, Block *b, int maxlist, int64_t budget, int wild)
+{
+    int i, most = least(n->nq, maxlist);
+    int64_t qmax = budget / 600000;
+    if (wild || qmax > LIMIT_QI) qmax = LIMIT_QI;
+    b->kind = 2;
+    b->has_ba = pct(35);
+    b->ba = b->has_ba ? any_area() : 0;
+    b->nqi = pct(4) ? 0 : between(1, most);
+    if (pct(10)) b->nqi = most;
+    int steady = pct(12);
+    int v = between(0, (int)qmax);
+    for (i = 0; i < b->nqi; i++) {
+        int r = rnd(10);
+        b->qi[i] = steady ? v : r < 2 ? 0 : r < 3 ? (int)qmax : between(0, (int)qmax);
+    }
+}
+
+static void routing(Net *n, Block *b)
+{
+    int how = RM_INSIDE, r = rnd(100);
+    b->kind = 4;
+    if (r < 12) how = RM_LOW;
+    else if (r < 24) how = RM_HIGH;
+    else if (r < 32) how = RM_LAG;
+    if (rm_pick(n->m, how, &b->rn, &b->rk, &b->rx))
+        return;
+    if (rm_pick(n->m, RM_INSIDE, &b->rn, &b->rk, &b->rx))
+        return;
+    /* one step with X = 0 and the least lawful K is always inside */
+    b->rn = 1;
+    b->rx = 0;
+    b->rk = (250 * n->m + 299) / 300;
+}
+
+/* ---- trees ---- */
+
+static int closing(int held)
+{
+    return held <= 1 ? 0 : (held - 1 + 3) / 4;
+}
+
+/* The shape: blocks in deck order, worked on a stack.  hold > 0: heap up that
+   many before combining.  routed: chance in a hundred of a routing. */
+static void shape(Net *n, int blocks, int hold, int routed)
+{
+    int stack[LIMIT_HELD + 1], held = 0, left = blocks, reached = 0, i;
+    int lean = between(25, 75);
+    n->nb = 0;
+    while (left > 0) {
+        Block *b = &n->b[n->nb];
+        int can_leaf = held < LIMIT_HELD && left - 1 >= closing(held + 1);
+        int can_rm = held >= 1 && left - 1 >= closing(held);
+        int most = least(5, held), take = 0, op;
+        while (most >= 2 && left - 1 < closing(held - most + 1))
+            most--;                                /* never: more taken closes sooner */
+        int fewest = 2;
+        while (fewest <= most && left - 1 < closing(held - fewest + 1))
+            fewest++;
+        int can_hc = most >= 2 && fewest <= most;
+        if (held >= hold) reached = 1;
+        if (!reached && can_leaf && (held == 0 || !pct(5)))
+            op = 0;
+        else if (can_rm && pct(routed))
+            op = 1;
+        else if (can_leaf && (!can_hc || pct(lean)))
+            op = 0;
+        else if (can_hc)
+            op = 2;
+        else if (can_rm)
+            op = 1;
+        else
+            op = 0;
+        memset(b, 0, offsetof(Block, pi));
+        if (op == 0) {
+            b->kind = 2;
+            stack[held++] = n->nb;
+        } else if (op == 1) {
+            b->kind = 4;
+            b->nch = 1;
+            b->ch[0] = stack[held - 1];
+            stack[held - 1] = n->nb;
+        } else {
+            take = between(fewest, most);
+            b->kind = 3;
+            b->hc = take;
+            b->nch = take;
+            for (i = 0; i < take; i++)
+                b->ch[i] = stack[held - take + i];
+            held -= take;
+            stack[held++] = n->nb;
+        }
+        n->order[n->nb] = n->nb;
+        n->nb++;
+        left--;
+    }
+}
+
+static int leaf_count(const Net *n)
+{
+    int i, c = 0;
+    for (i = 0; i < n->nb; i++)
+        c += n->b[i].nch == 0;
+    return c;
+}
+
+static void fill(Net *n, int maxlist, int flow)
+{
+    int i, leaves = leaf_count(n);
+    for (i = 0; i < n->nb; i++) {
+        Block *b = &n->b[i];
+        int64_t share = LIMIT_FLOW / (leaves > 0 ? leaves : 1);
+        if (flow == FLOW_SMALL) {
+            static const int parts[] = { 10, 100, 1000, 10000 };
+            share /= parts[rnd(4)];
+        }
+        int wild = flow == FLOW_WILD && pct(50);
+        if (b->nch == 0) {
+            if (pct(50))
+                runoff(n, b, maxlist, share, wild);
+            else
+                inflow(n, b, maxlist, share, wild);
+        } else if (b->kind == 4) {
+            routing(n, b);
+        }
+    }
+}
+
+void net_random(Net *n, int blocks, int hold, int maxlist, int flow, int routed)
+{
+    shape(n, blocks, hold, routed);
+    fill(n, maxlist, flow);
+    net_names(n, 0);
+}
+
+/* A network whose outlet stands at the flow limit: excess 0 at it, below 0
+   hundredths under it, above 0 over it (1000 means one flow unit over). */
+void net_limit(Net *n, int leaves, int excess)
+{
+    int i, k, nl = 0, at, steady, total = LIMIT_QI, unit = 0;
+    int blocks = leaves + closing(leaves);
+    int routed = pct(50) ? 25 : 0;
+    if (excess == 1000) {
+        unit = 1;
+        excess = 0;
+    }
+    total += excess;
+    if (unit) {
+        n->m = 1;                                  /* makes losses of single depth units */
+        if (leaves < 2) leaves = 2;
+        blocks = leaves + closing(leaves);
+    }
+    shape(n, blocks + (routed ? rnd(4) : 0), leaves, routed);
+    for (i = 0; i < n->nb; i++)
+        nl += n->b[i].nch == 0;
+    steady = routed != 0 || pct(30);
+    at = rnd(n->nq);
+    if (unit && nl < 2)
+        unit = 0;
+    for (i = 0; i < n->nb; i++) {
+        Block *b = &n->b[i];
+        if (b->kind == 4) {
+            routing(n, b);
+            continue;
+        }
+        if (b->nch != 0)
+            continue;
+        nl--;
+        if (unit && nl == 0) {                     /* the last leaf yields one flow unit */
+            b->kind = 1;
+            b->has_ba = 1;
+            b->ba = any_area();
+            b->npi = n->nq;
+            for (k = 0; k < b->npi; k++) b->pi[k] = 1;
+            b->lu2 = 59;
+            b->nui = 1;
+            b->ui[0] = 1;
+            continue;
+        }
+        int last = nl == 0 || (unit && nl == 1);
+        int q = last ? total : between(0, total);
+        if (!last && total > LIMIT_QI / 2 && pct(40)) q = total / 2;
+        if (q > LIMIT_QI) q = LIMIT_QI;
+        total -= q;
+        int count = steady ? n->nq : between(at + 1, n->nq);
+        if (q <= LIMIT_UI && pct(40)) {
+            b->kind = 1;
+            b->has_ba = 1;
+            b->ba = any_area();
+            b->npi = count;
+            for (k = 0; k < count; k++)
+                b->pi[k] = steady || k == at ? 10000 : 0;
+            if (q % 20 == 0 && pct(40)) {          /* twenty inches on a twentieth of the graph */
+                for (k = 0; k < count; k++) b->pi[k] *= 20;
+                q /= 20;
+            }
+            b->nui = 1;
+            b->ui[0] = q;
+        } else {
+            b->kind = 2;
+            b->has_ba = pct(30);
+            b->ba = b->has_ba ? any_area() : 0;
+            b->nqi = count;
+            for (k = 0; k < count; k++)
+                b->qi[k] = steady || k == at ? q : rnd(q + 1);
+        }
+    }
+    net_names(n, 0);
+}
+
+/* A chain of confluences of two, each taking one leaf and the chain above it:
+   cheap when the chain comes first, deep when the leaf comes first. */
+void net_caterpillar(Net *n, int depth, int maxlist)
+{
+    int i, spine = 0;
+    n->nb = 0;
+    memset(&n->b[0], 0, offsetof(Block, pi));
+    n->b[0].kind = 2;
+    n->nb = 1;
+    for (i = 0; i < depth; i++) {
+        Block *leaf = &n->b[n->nb], *hc = &n->b[n->nb + 1];
+        memset(leaf, 0, offsetof(Block, pi));
+        memset(hc, 0, offsetof(Block, pi));
+        leaf->kind = 2;
+        hc->kind = 3;
+        hc->hc = 2;
+        hc->nch = 2;
+        hc->ch[0] = spine;
+        hc->ch[1] = n->nb;
+        spine = n->nb + 1;
+        n->nb += 2;
+        if (pct(10) && n->nb < LIMIT_BLOCKS - 3) {
+            Block *rm = &n->b[n->nb];
+            memset(rm, 0, offsetof(Block, pi));
+            rm->kind = 4;
+            rm->nch = 1;
+            rm->ch[0] = spine;
+            spine = n->nb++;
+        }
+    }
+    fill(n, maxlist, FLOW_SHARE);
+    net_names(n, 0);
+    net_order(n);
+}
+
+/* ---- names ---- */
+
+static void one_name(Block *b)
+{
+    static const char plain[] = "ABCDEFGHIJKLMNOPQRSTUVWXYZ0123456789";
+    int i, odd = pct(25);
+    b->nlen = between(1, 6);
+    for (i = 0; i < b->nlen; i++)
+        b->name[i] = odd ? (unsigned char)between(0x21, 0x7E) : (unsigned char)plain[rnd(36)];
+    if (pct(2)) {
+        static const char *const tricky[] = { "END", "ZZ", "KK", "--", "*FIX", ",", ",,", "0", "REFUSE", "*FREE" };
+        const char *t = tricky[rnd(10)];
+        b->nlen = (int)strlen(t);
+        memcpy(b->name, t, (size_t)b->nlen);
+    }
+}
+
+void net_names(Net *n, int distinct)
+{
+    int i, j;
+    for (i = 0; i < n->nb; i++) {
+        for (;;) {
+            one_name(&n->b[i]);
+            if (!distinct)
+                break;
+            for (j = 0; j < i; j++)
+                if (n->b[j].nlen == n->b[i].nlen && !memcmp(n->b[j].name, n->b[i].name, (size_t)n->b[i].nlen))
+                    break;
+            if (j == i)
+                break;
+        }
+        if (!distinct && i > 0 && pct(15)) {
+            Block *o = &n->b[rnd(i)];
+            n->b[i].nlen = o->nlen;
+            memcpy(n->b[i].name, o->name, 6);
+        }
+    }
+}
+
+/* ---- orders ---- */
+
+static int root_of(const Net *n)
+{
+    unsigned char taken[LIMIT_BLOCKS + 2] = { 0 };
+    int i, k;
+    for (i = 0; i < n->nb; i++)
+        for (k = 0; k < n->b[i].nch; k++)
+            taken[n->b[i].ch[k]] = 1;
+    for (i = n->nb - 1; i > 0; i--)
+        if (!taken[i])
+            return i;
+    return 0;
+}
+
+static void visit(Net *n, int at, int *pos)
+{
+    int k;
+    for (k = 0; k < n->b[at].nch; k++)
+        visit(n, n->b[at].ch[k], pos);
+    n->order[(*pos)++] = at;
+}
+
+void net_order(Net *n)
+{
+    int pos = 0;
+    visit(n, root_of(n), &pos);
+}
+
+void net_shuffle(Net *n)
+{
+    int i, k;
+    for (i = 0; i < n->nb; i++) {
+        Block *b = &n->b[i];
+        for (k = b->nch - 1; k > 0; k--) {
+            int o = rnd(k + 1), t = b->ch[k];
+            b->ch[k] = b->ch[o];
+            b->ch[o] = t;
+        }
+    }
+    net_order(n);
+}
+
+/* Most held while the branch is worked, with its branches in their order. */
+static int need(const Net *n, int at)
+{
+    int k, most = 1;
+    for (k = 0; k < n->b[at].nch; k++) {
+        int w = k + need(n, n->b[at].ch[k]);
+        if (w > most) most = w;
+    }
+    return most;
+}
+
+static int by_need(Net *n, int at, int first)
+{
+    int k, j, w[5], most = 1;
+    Block *b = &n->b[at];
+    for (k = 0; k < b->nch; k++)
+        w[k] = by_need(n, b->ch[k], first);
+    for (k = 1; k < b->nch; k++)
+        for (j = k; j > 0 && (first ? w[j] > w[j - 1] : w[j] < w[j - 1]); j--) {
+            int t = w[j], c = b->ch[j];
+            w[j] = w[j - 1]; w[j - 1] = t;
+            b->ch[j] = b->ch[j - 1]; b->ch[j - 1] = c;
+        }
+    for (k = 0; k < b->nch; k++)
+        if (k + w[k] > most) most = k + w[k];
+    return most;
+}
+
+void net_deepest_first(Net *n)
+{
+    by_need(n, root_of(n), 1);
+    net_order(n);
+}
+
+void net_deepest_last(Net *n)
+{
+    by_need(n, root_of(n), 0);
+    net_order(n);
+}
+
+int net_held(const Net *n)
+{
+    return need(n, root_of(n));
+}

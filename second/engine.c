@@ -1,0 +1,715 @@
+/* The hydrograph engine; see engine.h.  The first part holds the water
+ * (document 01, 'Water, in whole units'), the second the records and their
+ * limits, the third the blocks and the order of the refusals ('What comes
+ * back').  Functions that can refuse return the refusal's number, 0 if none. */
+#include "engine.h"
+
+#include "cards.h"
+
+#include <stdbool.h>
+#include <string.h>
+
+enum refusal {
+    ACCEPTED = 0,
+    SHORT_WORK = 1,
+    LONG_DECK = 2,
+    BAD_LINE = 3,
+    UNKNOWN_RECORD = 4,
+    OUT_OF_PLACE = 5,
+    MALFORMED = 6,
+    OUT_OF_LIMITS = 7,
+    TOO_MANY_VALUES = 8,
+    NO_SET = 9,
+    TOO_FEW_HELD = 10,
+    TOO_MANY_HELD = 11,
+    BAD_ROUTING = 12,
+    FLOW_OVER_LIMIT = 13,
+    TOO_MANY_BLOCKS = 14,
+    NOT_ONE_HELD = 15,
+    NO_END = 16,
+    SHORT_RESULT_ROOM = 17
+};
+
+enum {
+    UNIT_GRAPH_LIMIT = 150,             /* UI values in a block */
+    DEPTH_PER_TEN_THOUSANDTH = 60,      /* depth units */
+    FLOW_PER_HUNDREDTH = 600000         /* flow units */
+};
+
+static const uint64_t FLOW_LIMIT = 6000000000000;
+
+/* ---- Water ------------------------------------------------------------ */
+
+/* Values of PI, UI or QI as counted on the cards: ten-thousandths for PI,
+ * hundredths for the others. */
+struct list {
+    unsigned count;
+    uint32_t value[ORDINATE_LIMIT];
+};
+
+/* Card values: losses in ten-thousandths. */
+struct loss {
+    uint32_t initial;
+    uint32_t uniform;
+};
+
+/* Card values: K and X in hundredths. */
+struct routing {
+    uint32_t steps;
+    uint32_t k;
+    uint32_t x;
+};
+
+/* Excess of each interval that has rain, in depth units. */
+static void find_excess(const struct list *rain, const struct loss *loss,
+                        uint32_t minutes, uint32_t *excess)
+{
+    uint64_t initial = (uint64_t)loss->initial * DEPTH_PER_TEN_THOUSANDTH;
+    uint64_t uniform = (uint64_t)loss->uniform * minutes;
+    uint64_t total = 0;
+
+    for (unsigned i = 0; i < rain->count; i++) {
+        uint64_t depth = (uint64_t)rain->value[i] * DEPTH_PER_TEN_THOUSANDTH;
+        total += depth;
+        if (total <= initial || depth <= uniform)
+            excess[i] = 0;
+        else
+            excess[i] = (uint32_t)(depth - uniform);
+    }
+}
+
+/* Each interval's excess starts a unit graph of its own in that interval.
+ * The sums stay below 2e16: 150 values of 1e7 times 1.2e7 units. */
+static void run_off(const uint32_t *excess, unsigned excess_count,
+                    const struct list *unit_graph, uint64_t *flow, unsigned nq)
+{
+    memset(flow, 0, nq * sizeof *flow);
+    for (unsigned i = 0; i < excess_count; i++) {
+        uint64_t depth = excess[i];
+        unsigned count = nq - i;
+
+        if (depth == 0)
+            continue;
+        if (count > unit_graph->count)
+            count = unit_graph->count;
+        for (unsigned j = 0; j < count; j++)
+            flow[i + j] += unit_graph->value[j] * depth;
+    }
+}
+
+static void flow_in(const struct list *cards, uint64_t *flow, unsigned nq)
+{
+    for (unsigned i = 0; i < cards->count; i++)
+        flow[i] = (uint64_t)cards->value[i] * FLOW_PER_HUNDREDTH;
+    memset(flow + cards->count, 0, (nq - cards->count) * sizeof *flow);
+}
+
+/* Adds the hydrographs in the places behind the first one to it. */
+static void join(uint64_t *flow, unsigned hydrographs, unsigned nq)
+{
+    for (unsigned h = 1; h < hydrographs; h++) {
+        const uint64_t *other = flow + h * ORDINATE_LIMIT;
+        for (unsigned i = 0; i < nq; i++)
+            flow[i] += other[i];
+    }
+}
+
+/* Muskingum in place.  The weights add up to D, so no outflow passes the
+ * greatest inflow, and since D is at most 2 * 720,000 no numerator passes
+ * 1,440,000 * 6e12 + D, which fits 64 bits. */
+static enum refusal route(const struct routing *card, uint32_t minutes,
+                          uint64_t *flow, unsigned nq)
+{
+    uint64_t a = (uint64_t)250 * card->steps * minutes;
+    uint64_t b = (uint64_t)3 * card->k * card->x;
+    uint64_t c = (uint64_t)3 * card->k * (100 - card->x);
+    uint64_t d = a + c;
+
+    if (b > a || a > c)
+        return BAD_ROUTING;
+    for (uint32_t step = 0; step < card->steps; step++) {
+        uint64_t inflow = flow[0];
+        uint64_t outflow = inflow;
+        uint64_t remainder = 0;
+        for (unsigned i = 1; i < nq; i++) {
+            uint64_t next = flow[i];
+            uint64_t sum = (a + b) * inflow + (a - b) * next
+                         + (c - a) * outflow + remainder;
+            outflow = sum / d;
+            remainder = sum % d;
+            inflow = next;
+            flow[i] = outflow;
+        }
+    }
+    return ACCEPTED;
+}
+
+struct summary {
+    uint64_t peak;
+    uint64_t sum;
+    unsigned interval;
+};
+
+/* Works before the flow limit is tested too: 300 times 2e16 fits. */
+static struct summary summarise(const uint64_t *flow, unsigned nq)
+{
+    struct summary s = { flow[0], flow[0], 1 };
+
+    for (unsigned i = 1; i < nq; i++) {
+        s.sum += flow[i];
+        if (flow[i] > s.peak) {
+            s.peak = flow[i];
+            s.interval = i + 1;
+        }
+    }
+    return s;
+}
+
+/* ---- Records and their limits ----------------------------------------- */
+
+enum record {
+    REC_UNKNOWN,
+    REC_FREE,
+    REC_FIX,
+    REC_ID,
+    REC_IT,
+    REC_KK,
+    REC_KM,
+    REC_ZZ,
+    REC_BA,
+    REC_PI,
+    REC_LU,
+    REC_UI,
+    REC_QI,
+    REC_HC,
+    REC_RM
+};
+
+/* Limits are counted in units of the last place, as read_number counts. */
+struct rule {
+    uint8_t places;
+    bool unread;
+    int64_t low;
+    int64_t high;
+};
+
+enum { NAMED_FIELD_LIMIT = 4 };
+
+/* A record whose fields each have a meaning; those behind are to be blank. */
+struct form {
+    unsigned fields;
+    struct rule rule[NAMED_FIELD_LIMIT];
+};
+
+static const struct form IT_FORM = {
+    4, { { 0, false, 1, 1440 }, { 0, true, 0, 0 }, { 0, true, 0, 0 },
+         { 0, false, 1, ORDINATE_LIMIT } }
+};
+static const struct form BA_FORM = { 1, { { 2, false, 1, 999999 } } };
+static const struct form LU_FORM = {
+    3, { { 4, false, 0, 200000 }, { 4, false, 0, 200000 }, { 2, false, 0, 0 } }
+};
+static const struct form HC_FORM = { 1, { { 0, false, 2, 5 } } };
+static const struct form RM_FORM = {
+    3, { { 0, false, 1, 50 }, { 2, false, 1, 2400 }, { 2, false, 0, 50 } }
+};
+
+static const struct rule PI_RULE = { 4, false, 0, 200000 };
+static const struct rule UI_RULE = { 2, false, 0, 9999999 };
+static const struct rule QI_RULE = { 2, false, 0, 10000000 };
+
+static bool is_text(struct text line, const char *text, unsigned length)
+{
+    return line.length == length && memcmp(line.at, text, length) == 0;
+}
+
+#define IDENTIFIER(first, second) ((first) << 8 | (second))
+
+/* A line of one byte has a blank second column, which no identifier has. */
+static enum record identify(struct text line)
+{
+    switch (IDENTIFIER(line.at[0], line.length > 1 ? line.at[1] : ' ')) {
+    case IDENTIFIER('I', 'D'): return REC_ID;
+    case IDENTIFIER('I', 'T'): return REC_IT;
+    case IDENTIFIER('K', 'K'): return REC_KK;
+    case IDENTIFIER('K', 'M'): return REC_KM;
+    case IDENTIFIER('Z', 'Z'): return REC_ZZ;
+    case IDENTIFIER('B', 'A'): return REC_BA;
+    case IDENTIFIER('P', 'I'): return REC_PI;
+    case IDENTIFIER('L', 'U'): return REC_LU;
+    case IDENTIFIER('U', 'I'): return REC_UI;
+    case IDENTIFIER('Q', 'I'): return REC_QI;
+    case IDENTIFIER('H', 'C'): return REC_HC;
+    case IDENTIFIER('R', 'M'): return REC_RM;
+    case IDENTIFIER('*', 'F'):
+        if (is_text(line, "*FREE", 5))
+            return REC_FREE;
+        if (is_text(line, "*FIX", 4))
+            return REC_FIX;
+        return REC_UNKNOWN;
+    default:
+        return REC_UNKNOWN;
+    }
+}
+
+static bool within(int64_t value, const struct rule *rule)
+{
+    return value >= rule->low && value <= rule->high;
+}
+
+/* All fields are read before any is held against its limits, because a
+ * malformed field anywhere on the line is answered first. */
+static enum refusal read_form(struct text line, bool free_form,
+                              const struct form *form, uint32_t *values)
+{
+    struct fields fields;
+    int64_t number[NAMED_FIELD_LIMIT] = { 0 };
+
+    if (!split_fields(line, free_form, &fields) || fields.count > form->fields)
+        return MALFORMED;
+    for (unsigned k = 0; k < fields.count; k++) {
+        const struct rule *rule = &form->rule[k];
+        if (!rule->unread
+            && !read_number(fields.at[k], rule->places, &number[k]))
+            return MALFORMED;
+    }
+    for (unsigned k = 0; k < form->fields; k++) {
+        if (!within(number[k], &form->rule[k]))
+            return OUT_OF_LIMITS;
+        values[k] = (uint32_t)number[k];
+    }
+    return ACCEPTED;
+}
+
+/* Puts the values of one more line behind those that the list has. */
+static enum refusal read_list(struct text line, bool free_form,
+                              const struct rule *rule, unsigned limit,
+                              struct list *list)
+{
+    struct fields fields;
+    int64_t number[FIELD_LIMIT];
+
+    if (!split_fields(line, free_form, &fields))
+        return MALFORMED;
+    for (unsigned k = 0; k < fields.count; k++)
+        if (!read_number(fields.at[k], rule->places, &number[k]))
+            return MALFORMED;
+    for (unsigned k = 0; k < fields.count; k++)
+        if (!within(number[k], rule))
+            return OUT_OF_LIMITS;
+    if (fields.count > limit - list->count)
+        return TOO_MANY_VALUES;
+    for (unsigned k = 0; k < fields.count; k++)
+        list->value[list->count++] = (uint32_t)number[k];
+    return ACCEPTED;
+}
+
+/* ---- Blocks and the run ----------------------------------------------- */
+
+enum kind {
+    KIND_NONE = 0,
+    KIND_RUNOFF = 1,
+    KIND_INFLOW = 2,
+    KIND_CONFLUENCE = 3,
+    KIND_ROUTING = 4
+};
+
+/* What the open block's records have said so far. */
+struct block {
+    unsigned seen;              /* one bit for each record met */
+    struct text name;
+    uint32_t area;              /* hundredths of a square mile */
+    uint32_t combine;
+    struct loss loss;
+    struct routing routing;
+    struct list rain;
+    struct list unit_graph;
+    struct list inflow;
+};
+
+enum phase {
+    BEFORE_IT,
+    BEFORE_KK,
+    IN_BLOCK,
+    ENDED
+};
+
+struct run {
+    const struct room *room;
+    uint64_t named;
+    bool free_form;
+    enum phase phase;
+    uint32_t minutes;
+    unsigned nq;
+    unsigned blocks;            /* KK lines met */
+    unsigned held;
+    uint32_t area[HELD_LIMIT];  /* of each held hydrograph */
+    struct block block;
+};
+
+static unsigned bit(enum record record)
+{
+    return 1u << record;
+}
+
+/* The arrays of values need no clearing, only their counts. */
+static void open_block(struct block *block, struct text name)
+{
+    block->seen = 0;
+    block->name = name;
+    block->area = 0;
+    block->rain.count = 0;
+    block->unit_graph.count = 0;
+    block->inflow.count = 0;
+}
+
+static enum kind kind_of(unsigned seen)
+{
+    if (seen == (bit(REC_BA) | bit(REC_PI) | bit(REC_LU) | bit(REC_UI)))
+        return KIND_RUNOFF;
+    if ((seen & ~bit(REC_BA)) == bit(REC_QI))
+        return KIND_INFLOW;
+    if (seen == bit(REC_HC))
+        return KIND_CONFLUENCE;
+    if (seen == bit(REC_RM))
+        return KIND_ROUTING;
+    return KIND_NONE;
+}
+
+static void put_number(uint8_t *at, uint64_t number, unsigned bytes)
+{
+    for (unsigned k = 0; k < bytes; k++, number >>= 8)
+        at[k] = (uint8_t)number;
+}
+
+static void write_record(uint8_t *record, struct text name, enum kind kind,
+                         uint32_t area, const struct summary *summary)
+{
+    memset(record, 0, RECORD_BYTES);
+    memset(record + RECORD_NAME, ' ', NAME_LIMIT);
+    memcpy(record + RECORD_NAME, name.at, name.length);
+    record[RECORD_KIND] = (uint8_t)kind;
+    put_number(record + RECORD_AREA, area, 4);
+    put_number(record + RECORD_PEAK, summary->peak, 8);
+    put_number(record + RECORD_INTERVAL, summary->interval, 2);
+    put_number(record + RECORD_SUM, summary->sum, 8);
+}
+
+/* Hands out what the caller asked about the block just worked.  Room that is
+ * too small is passed over here: a later line may still be refused, and that
+ * is answered first. */
+static void hand_out(struct run *run, enum kind kind, uint32_t area,
+                     const uint64_t *flow, const struct summary *summary)
+{
+    const struct room *room = run->room;
+
+    if (room->record_bytes / RECORD_BYTES >= run->blocks)
+        write_record(room->records + (size_t)(run->blocks - 1) * RECORD_BYTES,
+                     run->block.name, kind, area, summary);
+    if (run->named == run->blocks && room->ordinate_words >= run->nq)
+        memcpy(room->ordinates, flow, run->nq * sizeof *flow);
+}
+
+/* Area of the hydrograph that a block leaves in a place.  Confluence and
+ * routing find the areas that they take there and behind it. */
+static uint32_t area_left(const struct run *run, enum kind kind,
+                          unsigned place, unsigned taken)
+{
+    uint32_t area = 0;
+
+    if (kind == KIND_RUNOFF || kind == KIND_INFLOW)
+        return run->block.area;
+    for (unsigned h = 0; h < taken; h++)
+        area += run->area[place + h];
+    return area;
+}
+
+/* Works the open block.  Its hydrograph goes to the place of the first one
+ * that it takes, or behind all held if it takes none. */
+static enum refusal close_block(struct run *run)
+{
+    const struct block *block = &run->block;
+    enum kind kind = kind_of(block->seen);
+    unsigned taken = 0;
+    enum refusal refusal = ACCEPTED;
+    uint32_t excess[ORDINATE_LIMIT];
+
+    if (kind == KIND_NONE)
+        return NO_SET;
+    if (kind == KIND_CONFLUENCE)
+        taken = block->combine;
+    else if (kind == KIND_ROUTING)
+        taken = 1;
+    if (taken > run->held)
+        return TOO_FEW_HELD;
+
+    unsigned place = run->held - taken;
+    if (place == HELD_LIMIT)
+        return TOO_MANY_HELD;
+
+    uint64_t *flow = run->room->work + (size_t)place * ORDINATE_LIMIT;
+    switch (kind) {
+    case KIND_RUNOFF:
+        find_excess(&block->rain, &block->loss, run->minutes, excess);
+        run_off(excess, block->rain.count, &block->unit_graph, flow, run->nq);
+        break;
+    case KIND_INFLOW:
+        flow_in(&block->inflow, flow, run->nq);
+        break;
+    case KIND_CONFLUENCE:
+        join(flow, taken, run->nq);
+        break;
+    case KIND_ROUTING:
+        refusal = route(&block->routing, run->minutes, flow, run->nq);
+        break;
+    case KIND_NONE:
+        break;
+    }
+    if (refusal != ACCEPTED)
+        return refusal;
+
+    struct summary summary = summarise(flow, run->nq);
+    if (summary.peak > FLOW_LIMIT)
+        return FLOW_OVER_LIMIT;
+
+    run->area[place] = area_left(run, kind, place, taken);
+    run->held = place + 1;
+    hand_out(run, kind, run->area[place], flow, &summary);
+    return ACCEPTED;
+}
+
+static bool in_place(const struct run *run, enum record record)
+{
+    switch (record) {
+    case REC_ID:
+    case REC_IT:
+        return run->phase == BEFORE_IT;
+    case REC_KK:
+    case REC_ZZ:
+        return run->phase != BEFORE_IT;
+    case REC_PI:
+    case REC_UI:
+    case REC_QI:
+        return run->phase == IN_BLOCK;
+    case REC_BA:
+    case REC_LU:
+    case REC_HC:
+    case REC_RM:
+        return run->phase == IN_BLOCK && !(run->block.seen & bit(record));
+    default:
+        return true;
+    }
+}
+
+static enum refusal take_it(struct run *run, struct text line)
+{
+    uint32_t value[NAMED_FIELD_LIMIT];
+    enum refusal refusal = read_form(line, run->free_form, &IT_FORM, value);
+
+    if (refusal == ACCEPTED) {
+        run->minutes = value[0];
+        run->nq = value[3];
+        run->phase = BEFORE_KK;
+    }
+    return refusal;
+}
+
+static enum refusal take_kk(struct run *run, struct text line)
+{
+    struct text name;
+    enum refusal refusal = ACCEPTED;
+
+    if (!read_name(line, run->free_form, &name))
+        return MALFORMED;
+    if (run->phase == IN_BLOCK)
+        refusal = close_block(run);
+    if (refusal != ACCEPTED)
+        return refusal;
+    if (run->blocks == BLOCK_LIMIT)
+        return TOO_MANY_BLOCKS;
+    run->blocks++;
+    run->phase = IN_BLOCK;
+    open_block(&run->block, name);
+    return ACCEPTED;
+}
+
+static enum refusal take_zz(struct run *run)
+{
+    enum refusal refusal = ACCEPTED;
+
+    if (run->phase == IN_BLOCK)
+        refusal = close_block(run);
+    if (refusal != ACCEPTED)
+        return refusal;
+    if (run->held != 1)
+        return NOT_ONE_HELD;
+    run->phase = ENDED;
+    return ACCEPTED;
+}
+
+/* A record inside a block. */
+static enum refusal take_data(struct run *run, enum record record,
+                              struct text line)
+{
+    struct block *block = &run->block;
+    bool free_form = run->free_form;
+    uint32_t value[NAMED_FIELD_LIMIT] = { 0 };
+    enum refusal refusal = ACCEPTED;
+
+    switch (record) {
+    case REC_BA:
+        refusal = read_form(line, free_form, &BA_FORM, &block->area);
+        break;
+    case REC_HC:
+        refusal = read_form(line, free_form, &HC_FORM, &block->combine);
+        break;
+    case REC_LU:
+        refusal = read_form(line, free_form, &LU_FORM, value);
+        block->loss = (struct loss){ value[0], value[1] };
+        break;
+    case REC_RM:
+        refusal = read_form(line, free_form, &RM_FORM, value);
+        block->routing = (struct routing){ value[0], value[1], value[2] };
+        break;
+    case REC_PI:
+        refusal = read_list(line, free_form, &PI_RULE, run->nq, &block->rain);
+        break;
+    case REC_UI:
+        refusal = read_list(line, free_form, &UI_RULE, UNIT_GRAPH_LIMIT,
+                            &block->unit_graph);
+        break;
+    case REC_QI:
+        refusal = read_list(line, free_form, &QI_RULE, run->nq,
+                            &block->inflow);
+        break;
+    default:
+        break;
+    }
+    block->seen |= bit(record);
+    return refusal;
+}
+
+/* Everything about one line that is not blank, in the order of the
+ * refusals. */
+static enum refusal take_line(struct run *run, struct text line)
+{
+    enum record record = identify(line);
+
+    if (record == REC_UNKNOWN)
+        return UNKNOWN_RECORD;
+    if (!in_place(run, record))
+        return OUT_OF_PLACE;
+    switch (record) {
+    case REC_FREE:
+        run->free_form = true;
+        return ACCEPTED;
+    case REC_FIX:
+        run->free_form = false;
+        return ACCEPTED;
+    case REC_ID:
+    case REC_KM:
+        return ACCEPTED;
+    case REC_IT:
+        return take_it(run, line);
+    case REC_KK:
+        return take_kk(run, line);
+    case REC_ZZ:
+        return take_zz(run);
+    default:
+        return take_data(run, record, line);
+    }
+}
+
+/* Reads up to ZZ.  On a refusal the reader stands on the refused line. */
+static enum refusal take_lines(struct run *run, struct reader *reader)
+{
+    struct text line;
+    enum refusal refusal = ACCEPTED;
+
+    while (refusal == ACCEPTED && run->phase != ENDED) {
+        enum line_state state = next_line(reader, &line);
+        if (state == LINE_NONE)
+            break;
+        if (state == LINE_BAD)
+            refusal = BAD_LINE;
+        else if (line.length > 0)
+            refusal = take_line(run, line);
+    }
+    return refusal;
+}
+
+/* The checks that belong to no line and come after all lines. */
+static enum refusal check_end(const struct run *run)
+{
+    if (run->phase != ENDED)
+        return NO_END;
+    if (run->room->ordinate_words < run->nq
+        || run->room->record_bytes / RECORD_BYTES < run->blocks
+        || run->named > run->blocks)
+        return SHORT_RESULT_ROOM;
+    return ACCEPTED;
+}
+
+/* memset with no bytes still wants a valid pointer; a lender of nothing may
+ * have none. */
+static void clear_words(uint64_t *words, size_t from, size_t count)
+{
+    if (count > from)
+        memset(words + from, 0, (count - from) * sizeof *words);
+}
+
+static void clear_bytes(uint8_t *bytes, size_t from, size_t count)
+{
+    if (count > from)
+        memset(bytes + from, 0, count - from);
+}
+
+static struct answer refuse(const struct room *room, enum refusal refusal,
+                            unsigned line)
+{
+    clear_words(room->work, 0, room->work_words);
+    clear_words(room->ordinates, 0, room->ordinate_words);
+    clear_bytes(room->records, 0, room->record_bytes);
+    return (struct answer){ .refusal = refusal, .line = line };
+}
+
+/* At ZZ the last block's hydrograph is the one that is held. */
+static struct answer accept(const struct run *run)
+{
+    const struct room *room = run->room;
+
+    if (run->named == 0)
+        memcpy(room->ordinates, room->work, run->nq * sizeof *room->work);
+    clear_words(room->work, 0, room->work_words);
+    clear_words(room->ordinates, run->nq, room->ordinate_words);
+    clear_bytes(room->records, (size_t)run->blocks * RECORD_BYTES,
+                room->record_bytes);
+    return (struct answer){ .nq = run->nq, .blocks = run->blocks };
+}
+
+struct answer run_deck(const uint8_t *deck, size_t length, uint64_t named,
+                       const struct room *room)
+{
+    struct run run;
+    enum refusal refusal;
+
+    if (room->work_words < WORK_WORDS)
+        return refuse(room, SHORT_WORK, 0);
+    if (length > DECK_LIMIT)
+        return refuse(room, LONG_DECK, 0);
+
+    struct reader reader = { deck, deck + length, 0 };
+    run.room = room;
+    run.named = named;
+    run.free_form = false;
+    run.phase = BEFORE_IT;
+    run.blocks = 0;
+    run.held = 0;
+    refusal = take_lines(&run, &reader);
+    if (refusal != ACCEPTED)
+        return refuse(room, refusal, reader.line);
+    refusal = check_end(&run);
+    if (refusal != ACCEPTED)
+        return refuse(room, refusal, 0);
+    return accept(&run);
+}

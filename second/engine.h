@@ -1,0 +1,52 @@
+/* The hydrograph engine of document 01: one deck in, the hydrographs of its
+ * blocks out, all in memory that the caller lends. */
+#ifndef ENGINE_H
+#define ENGINE_H
+
+#include <stddef.h>
+#include <stdint.h>
+
+enum {
+    DECK_LIMIT = 60000,     /* bytes */
+    ORDINATE_LIMIT = 300,   /* per hydrograph */
+    HELD_LIMIT = 20,        /* hydrographs held at one time */
+    WORK_WORDS = HELD_LIMIT * ORDINATE_LIMIT,
+    BLOCK_LIMIT = 200,
+    RECORD_BYTES = 32
+};
+
+/* Where the parts of a block's record begin. */
+enum {
+    RECORD_NAME = 0,
+    RECORD_KIND = 6,
+    RECORD_AREA = 8,
+    RECORD_PEAK = 12,
+    RECORD_INTERVAL = 20,
+    RECORD_SUM = 24
+};
+
+/* What the caller lends.  Each may be of any size; whatever the run does not
+ * answer with is zero afterwards. */
+struct room {
+    uint64_t *work;
+    size_t work_words;
+    uint64_t *ordinates;
+    size_t ordinate_words;
+    uint8_t *records;
+    size_t record_bytes;
+};
+
+/* refusal 0: accepted, nq and blocks hold; otherwise refusal and line do. */
+struct answer {
+    unsigned refusal;
+    unsigned line;
+    unsigned nq;
+    unsigned blocks;
+};
+
+/* Runs one deck.  named is the block whose ordinates are wanted, from 1; 0 is
+ * the last.  The bytes of a deck above DECK_LIMIT are never looked at. */
+struct answer run_deck(const uint8_t *deck, size_t length, uint64_t named,
+                       const struct room *room);
+
+#endif

@@ -1,0 +1,432 @@
+/* Fuzz driver of the self-test: runs thousands of mutated decks under the
+ * sanitizers, from a fixed seed.  No outcome is known beforehand; what is
+ * tested is what must hold for any deck (document 01, 'What comes back'):
+ * outcomes do not depend on what the lent room held or on room to spare,
+ * refusals leave zeros, too little room is refused only where nothing else
+ * is, records agree with ordinates, and some changes to a deck change nothing
+ * or only the line.  Prints one line and ends with status 0, or says what
+ * broke, shows the deck and ends with status 1. */
+#include "engine.h"
+
+#include <stdbool.h>
+#include <stdio.h>
+#include <stdlib.h>
+#include <string.h>
+
+enum {
+    ROUNDS = 6000,
+    DECK_ROOM = 70000,
+    MOST_NAMED = 5      /* blocks of a deck that are asked for by name */
+};
+
+static const char *const seeds[] = {
+    "ID POND\n*FREE\nIT 60,,,4\nKK UP\nBA 1.50\nPI 0.50,0.30,0.10\n"
+    "LU 0.50,0.10\nUI 10,4\nKK RIV\nRM 1,1.00,0.20\nKK SIDE\nQI 1,2,2,1\n"
+    "KK OUT\nHC 2\nZZ\n",
+
+    "IT    60                       6\nKK A    TEXT\nQI     1       2       3\n"
+    "KM NOTE\nKKB\nBA  2.50\nUI 100.0   50.00   25.00\n"
+    "PI   0.1             0.5    0.25\nLU   0.2    0.05\nKK C\nHC     2\n"
+    "*FREE\nKK D\nRM 2,2,0.3\nZZ\n",
+
+    "*FREE\nIT 1440 , 1JAN , 1200 , 10\r\nKK A\r\nQI 90000,99000.99\r\n"
+    "QI ,,50000\r\n\r\nKK B\r\nRM 2,24,0\r\nKK C\r\nQI 0.01 0.02\r\nBA 9999.99"
+    "\r\nKK D\r\nQI 5\r\nKK E\r\nHC 3\r\nZZ\r\n",
+
+    "*FREE\nIT 1,,,3\nKK A\nBA .01\nPI 20,20,20\nLU 20,20,0\nUI 5000.00\n"
+    "UI 0,1\nKK R\nRM 1,.01,.16\nKK R2\nRM 50,24,0\nZZ",
+
+    "*FREE\nIT 60,,,2\nKK 1\nQI 1\nKK 2\nQI 2\nKK 3\nQI 3\nKK 4\nQI 4\nKK 5\n"
+    "QI 5\nKK S\nHC 5\nKK 6\nQI 6,7\nKK T\nHC 2\nKK R\nRM 1,1,0.5\nZZ\n"
+};
+
+static const char *const scraps[] = {
+    "\n", "\r\n", "\r", ",", ",,", " ", "   ", "0", "1", "9", "-0", "-1", "+", ".",
+    "20.0001", "100000.01", "999999999", "9999999999", "\t", "\x7f",
+    "KK X\n", "KK LONGNAME\n", "KM\n", "*FREE\n", "*FIX\n", "*FREE X\n", "ID\n",
+    "IT 60,,,4\n", "BA 1\n", "PI 1,2\n", "LU 0,0\n", "UI 1\n", "QI 1\n", "HC 2\n",
+    "RM 1,1,.2\n", "ZZ\n", "KK X\nQI 1\n", "KK X\nHC 2\n", "KK X\nRM 1,1,.2\n",
+    "KK X\nQI 1\nKK Y\nHC 2\n"
+};
+
+enum { SEEDS = sizeof seeds / sizeof *seeds,
+       SCRAPS = sizeof scraps / sizeof *scraps };
+
+static uint64_t state = 20240229;
+
+/* xorshift64: the same numbers everywhere. */
+static unsigned chance(unsigned below)
+{
+    state ^= state << 13;
+    state ^= state >> 7;
+    state ^= state << 17;
+    return (unsigned)(state >> 33) % below;
+}
+
+/* ---- Decks ------------------------------------------------------------ */
+
+static char deck[DECK_ROOM];
+static size_t deck_length;
+
+static void replace(size_t at, size_t gone, const char *text, size_t length)
+{
+    if (deck_length - gone + length > DECK_ROOM / 2)
+        return;
+    memmove(deck + at + length, deck + at + gone, deck_length - at - gone);
+    memcpy(deck + at, text, length);
+    deck_length = deck_length - gone + length;
+}
+
+static size_t line_start(void)
+{
+    size_t at = chance((unsigned)deck_length + 1);
+
+    while (at > 0 && deck[at - 1] != '\n')
+        at--;
+    return at;
+}
+
+static size_t line_length(size_t at)
+{
+    size_t end = at;
+
+    while (end < deck_length && deck[end] != '\n')
+        end++;
+    return end < deck_length ? end + 1 - at : end - at;
+}
+
+/* The first KK or ZZ at or behind some line. */
+static size_t block_start(void)
+{
+    size_t at = line_start();
+
+    while (at + 1 < deck_length && memcmp(deck + at, "KK", 2) != 0
+           && memcmp(deck + at, "ZZ", 2) != 0)
+        at += line_length(at);
+    return at;
+}
+
+static void mutate(void)
+{
+    static const char bytes[] = "0123456789.,-+ ABKZQIHCRMPULTD*\n\r";
+    const char *scrap = scraps[chance(SCRAPS)];
+    size_t at = deck_length > 0 ? chance((unsigned)deck_length) : 0;
+    char line[DECK_ROOM / 2];
+    size_t from, length;
+
+    switch (chance(8)) {
+    case 0:     /* another byte */
+        if (deck_length > 0)
+            deck[at] = bytes[chance(sizeof bytes - 1)];
+        break;
+    case 1:     /* any byte at all */
+        if (deck_length > 0 && chance(4) == 0)
+            deck[at] = (char)chance(256);
+        break;
+    case 2:     /* a byte less */
+        if (deck_length > 0)
+            replace(at, 1, "", 0);
+        break;
+    case 3:     /* a scrap anywhere */
+        replace(at, 0, scrap, strlen(scrap));
+        break;
+    case 4:     /* a scrap at the start of a line */
+        replace(line_start(), 0, scrap, strlen(scrap));
+        break;
+    case 5:     /* a line less */
+        at = line_start();
+        replace(at, line_length(at), "", 0);
+        break;
+    case 6:     /* a line again, elsewhere */
+        from = line_start();
+        length = line_length(from);
+        memcpy(line, deck + from, length);
+        replace(line_start(), 0, line, length);
+        break;
+    case 7:     /* cut off, the same part many times, or a block more */
+        if (chance(8) == 0)
+            deck_length = at;
+        else if (chance(4) == 0)
+            for (unsigned k = 0; k < 25; k++)
+                replace(line_start(), 0, scrap, strlen(scrap));
+        else
+            replace(block_start(), 0, "KK X\nQI 1\n", 10);
+        break;
+    }
+}
+
+static void append(const char *text, unsigned times)
+{
+    while (times-- > 0)
+        replace(deck_length, 0, text, strlen(text));
+}
+
+/* Two decks that stand at the limits of held hydrographs and of blocks. */
+static void make_crowd(void)
+{
+    append("*FREE\nIT 60,,,2\n", 1);
+    append("KK A\nQI 1\n", 20);
+    append("KK S\nHC 5\n", 4);
+    append("KK T\nHC 4\nZZ\n", 1);
+}
+
+static void make_chain(void)
+{
+    append("*FREE\nIT 60,,,2\nKK A\nQI 1\n", 1);
+    append("KK R\nRM 1,1,.2\n", 199);
+    append("ZZ\n", 1);
+}
+
+static void make_deck(void)
+{
+    unsigned choice = chance(SEEDS * 2 + 2);
+
+    deck_length = 0;
+    if (choice == 0)
+        make_crowd();
+    else if (choice == 1)
+        make_chain();
+    else
+        append(seeds[choice % SEEDS], 1);
+    for (unsigned k = chance(5); k > 0; k--)
+        mutate();
+}
+
+/* ---- Runs ------------------------------------------------------------- */
+
+struct outcome {
+    struct answer answer;
+    struct room room;
+};
+
+static void broken(const char *word)
+{
+    fprintf(stderr, "fuzz: %s\n---- deck\n", word);
+    fwrite(deck, 1, deck_length, stderr);
+    fprintf(stderr, "\n----\n");
+    exit(1);
+}
+
+static void *take(size_t bytes, int fill)
+{
+    void *at = malloc(bytes > 0 ? bytes : 1);
+
+    if (at == NULL)
+        exit(1);
+    memset(at, fill, bytes);
+    return at;
+}
+
+/* Lends memory of just the sizes asked for, so that a step outside shows. */
+static struct outcome run(const char *text, size_t length, uint64_t named,
+                          size_t work, size_t ordinates, size_t records,
+                          int fill)
+{
+    struct outcome o;
+    uint8_t *copy = take(length, 0);
+
+    memcpy(copy, text, length);
+    o.room = (struct room){
+        take(work * sizeof(uint64_t), fill), work,
+        take(ordinates * sizeof(uint64_t), fill), ordinates,
+        take(records, fill), records
+    };
+    o.answer = run_deck(copy, length, named, &o.room);
+    free(copy);
+    return o;
+}
+
+static void drop(struct outcome *o)
+{
+    free(o->room.work);
+    free(o->room.ordinates);
+    free(o->room.records);
+}
+
+static bool all_zero(const void *at, size_t from, size_t bytes)
+{
+    const uint8_t *p = at;
+
+    for (size_t k = from; k < bytes; k++)
+        if (p[k] != 0)
+            return false;
+    return true;
+}
+
+static bool same_answer(struct answer a, struct answer b)
+{
+    return a.refusal == b.refusal && a.line == b.line && a.nq == b.nq
+        && a.blocks == b.blocks;
+}
+
+/* Zeros where there must be zeros. */
+static void check_zeros(const struct outcome *o)
+{
+    const struct room *room = &o->room;
+    bool refused = o->answer.refusal != 0;
+    size_t words = refused ? 0 : o->answer.nq;
+    size_t bytes = refused ? 0 : (size_t)o->answer.blocks * RECORD_BYTES;
+
+    if (!all_zero(room->work, 0, room->work_words * sizeof(uint64_t)))
+        broken("work is not zero");
+    if (!all_zero(room->ordinates, words * sizeof(uint64_t),
+                  room->ordinate_words * sizeof(uint64_t)))
+        broken("ordinates are not zero");
+    if (!all_zero(room->records, bytes, room->record_bytes))
+        broken("records are not zero");
+}
+
+/* Two runs that must have said and left the same. */
+static void check_same(const struct outcome *a, const struct outcome *b)
+{
+    if (!same_answer(a->answer, b->answer))
+        broken("answers differ");
+    if (memcmp(a->room.ordinates, b->room.ordinates,
+               a->answer.nq * sizeof(uint64_t)) != 0)
+        broken("ordinates differ");
+    if (memcmp(a->room.records, b->room.records,
+               (size_t)a->answer.blocks * RECORD_BYTES) != 0)
+        broken("records differ");
+}
+
+static uint64_t number(const uint8_t *at, unsigned bytes)
+{
+    uint64_t n = 0;
+
+    while (bytes > 0)
+        n = n << 8 | at[--bytes];
+    return n;
+}
+
+/* A block's record against its ordinates. */
+static void check_record(const struct outcome *o, unsigned block)
+{
+    const uint8_t *record = o->room.records + (size_t)(block - 1) * RECORD_BYTES;
+    const uint64_t *flow = o->room.ordinates;
+    uint64_t peak = flow[0], sum = 0;
+    unsigned interval = 1;
+
+    for (unsigned i = 0; i < o->answer.nq; i++) {
+        sum += flow[i];
+        if (flow[i] > peak) {
+            peak = flow[i];
+            interval = i + 1;
+        }
+    }
+    if (number(record + RECORD_PEAK, 8) != peak
+        || number(record + RECORD_INTERVAL, 2) != interval
+        || number(record + RECORD_SUM, 8) != sum)
+        broken("a record does not fit its ordinates");
+    if (peak > 6000000000000)
+        broken("a flow is over the limit");
+    if (record[RECORD_KIND] < 1 || record[RECORD_KIND] > 4
+        || record[RECORD_KIND + 1] != 0
+        || number(record + RECORD_INTERVAL + 2, 2) != 0)
+        broken("a record is malformed");
+}
+
+/* Expects an answer with no blocks from a run with little room. */
+static void expect(uint64_t named, size_t work, size_t ordinates,
+                   size_t records, unsigned refusal, unsigned line)
+{
+    struct outcome o = run(deck, deck_length, named, work, ordinates, records,
+                           0x5A);
+
+    if (o.answer.refusal != refusal || o.answer.line != line)
+        broken("too little room is answered wrongly");
+    check_zeros(&o);
+    drop(&o);
+}
+
+static void check_accepted(const struct outcome *base)
+{
+    unsigned nq = base->answer.nq;
+    unsigned blocks = base->answer.blocks;
+    size_t bytes = (size_t)blocks * RECORD_BYTES;
+
+    for (unsigned k = 0; k <= blocks && k <= MOST_NAMED; k++) {
+        struct outcome o = run(deck, deck_length, k, WORK_WORDS, nq, bytes, 7);
+        if (!same_answer(o.answer, base->answer))
+            broken("the named block changes the answer");
+        check_zeros(&o);
+        check_record(&o, k == 0 ? blocks : k);
+        if (memcmp(o.room.records, base->room.records, bytes) != 0)
+            broken("the named block changes records");
+        drop(&o);
+    }
+    expect(blocks + 1, WORK_WORDS, nq, bytes, 17, 0);
+    expect(0, WORK_WORDS, nq - 1, bytes, 17, 0);
+    expect(0, WORK_WORDS, nq, bytes - 1, 17, 0);
+    expect(0, WORK_WORDS - 1, nq, bytes, 1, 0);
+}
+
+/* Bytes behind ZZ are not read. */
+static void check_behind_end(const struct outcome *base)
+{
+    static char longer[DECK_ROOM];
+    static const char rest[] = "\n\xff\tXX\nKK\n";
+    struct outcome o;
+
+    memcpy(longer, deck, deck_length);
+    memcpy(longer + deck_length, rest, sizeof rest - 1);
+    o = run(longer, deck_length + sizeof rest - 1, 0, WORK_WORDS,
+            ORDINATE_LIMIT, BLOCK_LIMIT * RECORD_BYTES, 3);
+    check_same(base, &o);
+    drop(&o);
+}
+
+/* A comment in front moves lines, nothing else. */
+static void check_line_in_front(const struct outcome *base)
+{
+    static char longer[DECK_ROOM];
+    struct outcome o;
+
+    memcpy(longer, "KM,\r\n", 5);
+    memcpy(longer + 5, deck, deck_length);
+    o = run(longer, deck_length + 5, 0, WORK_WORDS, ORDINATE_LIMIT,
+            BLOCK_LIMIT * RECORD_BYTES, 3);
+    if (base->answer.line > 0)
+        o.answer.line--;
+    check_same(base, &o);
+    drop(&o);
+}
+
+static void check_deck(unsigned *count)
+{
+    size_t records = BLOCK_LIMIT * RECORD_BYTES;
+    struct outcome base = run(deck, deck_length, 0, WORK_WORDS, ORDINATE_LIMIT,
+                              records, 0xFF);
+    struct outcome wide = run(deck, deck_length, 0, WORK_WORDS + 37,
+                              ORDINATE_LIMIT + 5, records + 3, 1);
+
+    check_zeros(&base);
+    check_zeros(&wide);
+    check_same(&base, &wide);
+    count[base.answer.refusal]++;
+    if (base.answer.refusal == 0) {
+        check_accepted(&base);
+        check_behind_end(&base);
+    } else {
+        expect(9, WORK_WORDS, 0, 0, base.answer.refusal, base.answer.line);
+        expect(0, 0, 0, 0, 1, 0);
+    }
+    check_line_in_front(&base);
+    drop(&base);
+    drop(&wide);
+}
+
+int main(void)
+{
+    unsigned count[18] = { 0 };
+
+    for (unsigned k = 0; k < ROUNDS; k++) {
+        make_deck();
+        check_deck(count);
+    }
+    printf("fuzz: %d decks, %u accepted; refused as", ROUNDS, count[0]);
+    for (unsigned k = 1; k <= 17; k++)
+        if (count[k] > 0)
+            printf(" %u:%u", k, count[k]);
+    putchar('\n');
+    return 0;
+}

@@ -1,0 +1,344 @@
+/* The program around the engine: reads one deck, a bundle of decks or a
+ * bundle of cases from standard input and prints listings (document 01, 'A
+ * deck and its listing') or, in the full form, all that the engine leaves in
+ * the room lent to it.
+ *
+ *   hec1                                  one deck, its listing
+ *   hec1 --bundle                         length and deck, again and again
+ *   hec1 --full [--named K] [--work W] [--ordinates N] [--records B]
+ *   hec1 --cases                          K, W, N, B, length and deck, again
+ *
+ * Numbers in bundles have 4 bytes, little-endian.  Exit status 0 whether decks
+ * are refused or not; 2 when the input is cut short or the call is wrong. */
+#include "engine.h"
+
+#include <stdbool.h>
+#include <stdio.h>
+#include <stdlib.h>
+#include <string.h>
+
+enum {
+    EXIT_TROUBLE = 2,
+    FLOW_PER_HUNDREDTH_CFS = 600000,
+    LISTING_LINE = 96   /* name 6, five numbers of at most 20, separators */
+};
+
+/* One byte more than a deck may have, so that a longer one shows. */
+static uint8_t deck[DECK_LIMIT + 1];
+
+static void stop(const char *word)
+{
+    fflush(stdout);
+    fprintf(stderr, "hec1: %s\n", word);
+    exit(EXIT_TROUBLE);
+}
+
+/* ---- Printing --------------------------------------------------------- */
+
+/* Each add_ function puts its text at a place and returns the place behind. */
+
+static char *add_number(char *at, uint64_t number)
+{
+    char digits[20];
+    unsigned count = 0;
+
+    do {
+        digits[count++] = (char)('0' + number % 10);
+        number /= 10;
+    } while (number > 0);
+    while (count > 0)
+        *at++ = digits[--count];
+    return at;
+}
+
+static char *add_hundredths(char *at, uint64_t hundredths)
+{
+    at = add_number(at, hundredths / 100);
+    *at++ = '.';
+    *at++ = (char)('0' + hundredths / 10 % 10);
+    *at++ = (char)('0' + hundredths % 10);
+    return at;
+}
+
+static char *add_name(char *at, const uint8_t *name)
+{
+    for (unsigned k = 0; k < RECORD_KIND && name[k] != ' '; k++)
+        *at++ = (char)name[k];
+    return at;
+}
+
+static uint64_t get_number(const uint8_t *at, unsigned bytes)
+{
+    uint64_t number = 0;
+
+    while (bytes > 0)
+        number = number << 8 | at[--bytes];
+    return number;
+}
+
+static void print_record(const uint8_t *record)
+{
+    char line[LISTING_LINE];
+    char *at = line;
+    uint64_t peak = get_number(record + RECORD_PEAK, 8);
+
+    at = add_name(at, record + RECORD_NAME);
+    *at++ = ' ';
+    at = add_number(at, record[RECORD_KIND]);
+    *at++ = ' ';
+    at = add_hundredths(at, get_number(record + RECORD_AREA, 4));
+    *at++ = ' ';
+    at = add_hundredths(at, (peak + FLOW_PER_HUNDREDTH_CFS / 2)
+                            / FLOW_PER_HUNDREDTH_CFS);
+    *at++ = ' ';
+    at = add_number(at, get_number(record + RECORD_INTERVAL, 2));
+    *at++ = ' ';
+    at = add_number(at, get_number(record + RECORD_SUM, 8));
+    *at++ = '\n';
+    fwrite(line, 1, (size_t)(at - line), stdout);
+}
+
+static void print_refusal(const struct answer *answer)
+{
+    printf("REFUSED %u %u\n", answer->refusal, answer->line);
+}
+
+static void print_ordinates(const uint64_t *ordinates, size_t count)
+{
+    char text[21];
+
+    for (size_t k = 0; k < count; k++) {
+        char *at = text;
+        if (k > 0)
+            *at++ = ' ';
+        at = add_number(at, ordinates[k]);
+        fwrite(text, 1, (size_t)(at - text), stdout);
+    }
+    putchar('\n');
+}
+
+static void print_bytes(const uint8_t *bytes, size_t count)
+{
+    static const char hex[] = "0123456789abcdef";
+
+    for (size_t k = 0; k < count; k++) {
+        putchar(hex[bytes[k] >> 4]);
+        putchar(hex[bytes[k] & 15]);
+    }
+    putchar('\n');
+}
+
+static size_t count_not_zero(const uint64_t *words, size_t count)
+{
+    size_t found = 0;
+
+    for (size_t k = 0; k < count; k++)
+        found += words[k] != 0;
+    return found;
+}
+
+/* ---- Running ---------------------------------------------------------- */
+
+/* Room enough for every deck that can be accepted. */
+static void print_listing(size_t length)
+{
+    static uint64_t work[WORK_WORDS];
+    static uint64_t ordinates[ORDINATE_LIMIT];
+    static uint8_t records[BLOCK_LIMIT * RECORD_BYTES];
+    const struct room room = {
+        work, WORK_WORDS, ordinates, ORDINATE_LIMIT, records, sizeof records
+    };
+    struct answer answer = run_deck(deck, length, 0, &room);
+
+    if (answer.refusal != 0) {
+        print_refusal(&answer);
+        return;
+    }
+    for (unsigned k = 0; k < answer.blocks; k++)
+        print_record(records + k * RECORD_BYTES);
+    printf("END %u\n", answer.blocks);
+}
+
+/* What a case asks for and lends. */
+struct wish {
+    uint64_t named;
+    size_t work;
+    size_t ordinates;
+    size_t records;
+};
+
+/* Memory that is kept from case to case and grows when one asks for more. */
+struct store {
+    void *at;
+    size_t bytes;
+};
+
+static void *at_least(struct store *store, size_t count, size_t size)
+{
+    if (count > SIZE_MAX / size)
+        stop("no such room");
+    if (store->at == NULL || store->bytes < count * size) {
+        free(store->at);
+        store->bytes = count > 0 ? count * size : size;
+        store->at = malloc(store->bytes);
+        if (store->at == NULL)
+            stop("no memory");
+    }
+    return store->at;
+}
+
+static void fill_words(uint64_t *words, size_t count)
+{
+    for (size_t k = 0; k < count; k++)
+        words[k] = 1;
+}
+
+/* Everything lent is filled first, so that a zero at the end was written. */
+static void print_full(size_t length, const struct wish *wish)
+{
+    static struct store work, ordinates, records;
+    const struct room room = {
+        at_least(&work, wish->work, sizeof(uint64_t)), wish->work,
+        at_least(&ordinates, wish->ordinates, sizeof(uint64_t)),
+        wish->ordinates,
+        at_least(&records, wish->records, 1), wish->records
+    };
+
+    fill_words(room.work, room.work_words);
+    fill_words(room.ordinates, room.ordinate_words);
+    memset(room.records, 1, room.record_bytes);
+
+    struct answer answer = run_deck(deck, length, wish->named, &room);
+
+    if (answer.refusal != 0)
+        print_refusal(&answer);
+    else
+        printf("%u %u\n", answer.nq, answer.blocks);
+    print_ordinates(room.ordinates, room.ordinate_words);
+    print_bytes(room.records, room.record_bytes);
+    printf("%zu\n", count_not_zero(room.work, room.work_words));
+}
+
+/* ---- Reading ---------------------------------------------------------- */
+
+/* Reads standard input to its end.  Of a deck that is too long only the
+ * first bytes are kept; the rest is read so that its writer can finish. */
+static size_t read_only_deck(void)
+{
+    size_t length = fread(deck, 1, sizeof deck, stdin);
+    uint8_t rest[4096];
+
+    if (length == sizeof deck)
+        while (fread(rest, 1, sizeof rest, stdin) == sizeof rest)
+            ;
+    if (ferror(stdin))
+        stop("cannot read");
+    return length;
+}
+
+/* Reads numbers of 4 bytes.  False: the input ends where the first would
+ * begin. */
+static bool read_numbers(uint32_t *numbers, unsigned count)
+{
+    uint8_t bytes[5 * 4];
+    size_t found = fread(bytes, 1, count * 4, stdin);
+
+    if (found == 0 && !ferror(stdin))
+        return false;
+    if (found < count * 4)
+        stop("input ends inside a number");
+    for (unsigned k = 0; k < count; k++)
+        numbers[k] = (uint32_t)get_number(bytes + 4 * k, 4);
+    return true;
+}
+
+/* Reads a deck of a known length.  The engine does not look into one that is
+ * too long, so its parts may be read over one another. */
+static void read_deck(uint32_t length)
+{
+    for (uint32_t left = length; left > 0; ) {
+        size_t part = left < sizeof deck ? left : sizeof deck;
+        if (fread(deck, 1, part, stdin) < part)
+            stop("input ends inside a deck");
+        left -= (uint32_t)part;
+    }
+}
+
+static void run_bundle(void)
+{
+    uint32_t length;
+
+    while (read_numbers(&length, 1)) {
+        read_deck(length);
+        print_listing(length);
+        puts("--");
+    }
+}
+
+static void run_cases(void)
+{
+    uint32_t number[5];
+
+    while (read_numbers(number, 5)) {
+        struct wish wish = { number[0], number[1], number[2], number[3] };
+        read_deck(number[4]);
+        print_full(number[4], &wish);
+        puts("--");
+    }
+}
+
+/* ---- The call --------------------------------------------------------- */
+
+static uint64_t option_value(const char *text)
+{
+    char *end;
+
+    if (text == NULL || *text < '0' || *text > '9')
+        stop("an option wants a number");
+    uint64_t value = strtoull(text, &end, 10);
+    if (*end != '\0')
+        stop("an option wants a number");
+    return value;
+}
+
+int main(int argc, char **argv)
+{
+    struct wish wish = {
+        0, WORK_WORDS, ORDINATE_LIMIT, BLOCK_LIMIT * RECORD_BYTES
+    };
+    bool full = false, bundle = false, cases = false;
+
+    for (int k = 1; k < argc; k++) {
+        if (strcmp(argv[k], "--full") == 0)
+            full = true;
+        else if (strcmp(argv[k], "--bundle") == 0)
+            bundle = true;
+        else if (strcmp(argv[k], "--cases") == 0)
+            cases = true;
+        else if (strcmp(argv[k], "--named") == 0)
+            wish.named = option_value(argv[++k]);
+        else if (strcmp(argv[k], "--work") == 0)
+            wish.work = option_value(argv[++k]);
+        else if (strcmp(argv[k], "--ordinates") == 0)
+            wish.ordinates = option_value(argv[++k]);
+        else if (strcmp(argv[k], "--records") == 0)
+            wish.records = option_value(argv[++k]);
+        else
+            stop("unknown option");
+    }
+    if (full + bundle + cases > 1)
+        stop("--full, --bundle and --cases exclude one another");
+
+    if (bundle)
+        run_bundle();
+    else if (cases)
+        run_cases();
+    else if (full)
+        print_full(read_only_deck(), &wish);
+    else
+        print_listing(read_only_deck());
+
+    if (fflush(stdout) != 0 || ferror(stdout))
+        stop("cannot write");
+    return EXIT_SUCCESS;
+}

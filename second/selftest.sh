@@ -1,0 +1,750 @@
+#!/usr/bin/env bash
+# Self-test of the second program.  Builds it and the fuzz driver with the
+# address and undefined-behaviour sanitizers, runs small decks against outcomes
+# worked out by hand from document 01, then the fuzz.  The last line counts.
+#
+# Decks and expected texts are written with printf's escapes (\n, \r, \xHH).
+set -u
+here=$(CDPATH= cd -- "$(dirname -- "$0")" && pwd)
+out=$here/../target/second
+prog=$out/hec1-checked
+fuzz=$out/fuzz-checked
+mkdir -p "$out"
+scratch=$(mktemp -d) || exit 1
+trap 'rm -rf "$scratch"' EXIT
+
+build() {
+    "${CC:-gcc}" -std=c11 -Wall -Wextra -Wpedantic -Werror -g -O1 \
+        -fsanitize=address,undefined -fno-sanitize-recover=all -o "$@" || {
+        echo "cannot build"
+        exit 1
+    }
+}
+build "$prog" "$here/main.c" "$here/engine.c" "$here/cards.c"
+build "$fuzz" "$here/fuzz.c" "$here/engine.c" "$here/cards.c"
+
+passed=0
+failed=0
+
+# check WHAT EXPECTED GOT: compares two strings byte by byte.
+check() {
+    if [ "$2" = "$3" ]; then
+        passed=$((passed + 1))
+    else
+        failed=$((failed + 1))
+        printf 'FAILED: %s\n  expected: %q\n  got:      %q\n' "$1" "$2" "$3"
+    fi
+}
+
+# The program's output, its exit status and whether it said something on
+# standard error.  The status line also keeps trailing newlines from getting
+# lost.
+run() {
+    "$prog" "$@" 2>"$scratch/err"
+    local status=$?
+    if [ -s "$scratch/err" ]; then echo "status $status, said"
+    else echo "status $status, silent"; fi
+}
+
+# lists EXPECTED DECK: the listing of a deck.
+lists() {
+    local expected got
+    printf -v expected '%bstatus 0, silent' "$1"
+    got=$(printf '%b' "$2" | run)
+    check "$2" "$expected" "$got"
+}
+
+# refused NUMBER LINE DECK
+refused() { lists "REFUSED $1 $2\n" "$3"; }
+
+# full EXPECTED DECK OPTIONS...: the full form.
+full() {
+    local expected got deck=$2
+    printf -v expected '%bstatus 0, silent' "$1"
+    shift 2
+    got=$(printf '%b' "$deck" | run --full "$@")
+    check "$deck $*" "$expected" "$got"
+}
+
+# flows ORDINATES DECK [NAMED]: the ordinates of a block, the last by default.
+# As many are lent as are expected.
+flows() {
+    local count got
+    count=$(wc -w <<<"$1")
+    got=$(printf '%b' "$2" | run --full --ordinates "$count" --named "${3:-0}" |
+        sed -n 2p)
+    check "$2" "$1" "$got"
+}
+
+# times COUNT TEXT: the text again and again.
+times() {
+    local k text=
+    for ((k = 0; k < $1; k++)); do text+=$2; done
+    printf '%s' "$text"
+}
+
+# fixed ID FIELD...: a line in fixed form, values at the right of their fields.
+fixed() {
+    local id=$1 first=${2-}
+    shift $(($# > 1 ? 2 : 1))
+    printf '%-2s%6s' "$id" "$first"
+    [ $# -eq 0 ] || printf '%8s' "$@"
+}
+
+# ---- The deck of document 01 and its listing ---------------------------
+
+pond='ID POND\n*FREE\nIT 60,,,4\nKK UP\nBA 1.50\nPI 0.50,0.30,0.10\nLU 0.50,0.10\nUI 10,4\nKK RIV\nRM 1,1.00,0.20\nKK SIDE\nQI 1,2,2,1\nKK OUT\nHC 2\nZZ\n'
+pond_list='UP 1 1.50 2.00 2 168000000\nRIV 4 1.50 1.37 3 154563495\nSIDE 2 0.00 2.00 2 360000000\nOUT 3 1.50 3.37 3 514563495\nEND 4\n'
+
+lists "$pond_list" "$pond"
+lists "$pond_list" "${pond%'\n'}"                       # last line without LF
+lists "$pond_list" "${pond//'\n'/'\r\n'}"               # CR LF throughout
+lists "$pond_list" "${pond//'\n'/'\n\n   \n'}"          # blank lines between
+lists "$pond_list" "${pond//'\n'/'   \n'}"              # trailing blanks
+lists "$pond_list" "${pond//','/' , '}"                 # blanks beside commas
+lists "$pond_list" "${pond}anything at all \x00\xff\r\t"    # behind ZZ
+lists "$pond_list" "${pond//'\n'/'\nKM  note, with, commas\n'}"
+
+pond_fixed="$(fixed IT 60 '' '' 4)\nKK    UP\n$(fixed BA 1.50)\n$(fixed PI 0.50 0.30 0.10)\n$(fixed LU 0.50 0.10)\n$(fixed UI 10 4)\nKKRIV\n$(fixed RM 1 1.00 0.20)\nKK SIDE text from column nine\n$(fixed QI 1 2 2 1)\nKK OUT\n$(fixed HC 2)\nZZ\n"
+lists "$pond_list" "$pond_fixed"
+# *FIX in force again after *FREE, and switches inside a block
+lists "$pond_list" "*FREE\n*FIX\n$pond_fixed"
+lists "$pond_list" "*FREE\nIT 60,,,4\nKK UP\n*FIX\n$(fixed BA 1.50)\n*FREE\nPI 0.50\n*FIX  \n$(fixed PI 0.30 0.10)\n*FREE   \nLU 0.50,0.10\nUI 10,4\nKK RIV\nRM 1,1.00,0.20\nKK SIDE\nQI 1,2,2,1\nKK OUT\nHC 2\nZZ\n"
+
+# ---- P1 to P10 ----------------------------------------------------------
+
+up='*FREE\nIT 60,,,4\nKK UP\nBA 1.50\nPI 0.50,0.30,0.10\nLU 0.50,0.10\n'
+flows '0 120000 0 0' "${up}UI 0.01\nZZ\n"                           # P1
+flows '0 120000000 48000000 0' "$pond" 1                            # P2
+flows '0 27692307 82082840 44788348' "$pond" 2                      # P3
+flows '60000000 120000000 120000000 60000000' "$pond" 3
+flows '60000000 147692307 202082840 104788348' "$pond" 4            # P4
+flows '60000000 147692307 202082840 104788348' "$pond" 0
+
+qi='*FREE\nIT 60,,,4\nKK A\nQI 1,2,3,4\nKK B\n'                     # 5 lines
+refused 12 7 "${qi}RM 1,0.50,0.20\nZZ\n"                            # P5
+flows '60000000 60000000 120000000 180000000' "${qi}RM 1,1.00,0.50\nZZ\n" # P6
+seven='*FREE\nIT 1,,,4\nKK A\nBA 1\nPI 0.0001,0.0001,0.0001,0.0001\nLU 0,0.0053\nUI 0.01\n'
+flows '7 7 7 7' "${seven}ZZ\n"
+flows '7 7 7 7' "${seven}KK B\nRM 50,1.00,0.20\nZZ\n"               # P7
+flows '420000000 420000000 420000000' '*FREE\nIT 60,,,3\nKK A\nQI 7,7,7\nKK B\nRM 1,1,.2\nZZ\n'
+one='A 2 0.00 1.00 1 60000000\nEND 1\n'
+lists "$one" '*FREE\nIT 60.,,,4\nKK A\nQI 1\nZZ\n'                  # P8
+refused 6 2 '*FREE\nIT 60.0,,,4\nKK A\nQI 1\nZZ\n'
+rain='*FREE\nIT 60,,,4\nKK A\nBA 1\nLU 0,0\nUI 0.01\n'              # 6 lines
+flows '600000 0 1200000 0' "${rain}PI 1,,2\nZZ\n"                   # P9
+refused 8 7 '*FREE\nIT 60,,,2\nKK A\nBA 1\nLU 0,0\nUI 0.01\nPI 1,,2\nZZ\n'
+lists 'A 2 0.00 2.00 2 360000000\nEND 1\n' '*FREE\nIT 60,,,4\nKK A\nQI 1,2,2,1\nZZ\n' # P10
+lists 'A 2 0.00 3.00 1 720000000\nEND 1\n' '*FREE\nIT 60,,,4\nKK A\nQI 3,3,3,3\nZZ\n'
+
+# ---- Run, not proved ----------------------------------------------------
+
+free='*FREE\nIT 60,,,4\n'                                           # 2 lines
+text78=$(times 78 x)
+lists "$one" "${free}KK A\nKM$text78\nQI 1\nZZ\n"
+lists "$one" "${free}KK A\nKM$text78\r\nQI 1\nZZ\n"
+refused 3 4 "${free}KK A\nKM${text78}x\nQI 1\nZZ\n"
+refused 3 4 "${free}KK A\nKM${text78}x\r\nQI 1\nZZ\n"
+lists 'A 2 0.00 100000.00 1 6000000000000\nEND 1\n' "${free}KK A\nQI 100000\nZZ\n"
+refused 7 4 "${free}KK A\nQI 100000.01\nZZ\n"
+inflow='KK A\nQI 1\n'
+refused 15 43 "$free$(times 20 "$inflow")ZZ\n"                      # 20 held
+refused 11 45 "$free$(times 21 "$inflow")ZZ\n"                      # 21st
+refused 11 45 "$free$(times 22 "$inflow")ZZ\n"
+refused 10 9 "${free}$(times 2 "$inflow")KK C\nHC 3\nZZ\n"
+refused 15 3 'ID\nIT    60                       4\nZZ\n'
+refused 15 4 'ID X\n*FREE\nIT 60,,,4\nZZ\n'
+
+# ---- Rooms (1, 17), the named block, and zeros --------------------------
+
+small="${free}KK A\nQI 1\nZZ\n"
+rec_a=412020202020020000000000008793030000000001000000
+rec_a+=0087930300000000
+zeros() { times "$1" 00; }
+
+full "4 1\n60000000 0 0 0 0 0\n$rec_a$(zeros 8)\n0\n" "$small" --ordinates 6 --records 40
+full "4 1\n60000000 0 0 0\n$rec_a\n0\n" "$small" --ordinates 4 --records 32 --named 1
+full "4 1\n60000000 0 0 0\n$rec_a\n0\n" "$small" --ordinates 4 --records 32 --work 7001
+full "4 1\n60000000 0 0 0$(times 296 ' 0')\n$rec_a$(zeros 6368)\n0\n" "$small"
+full "REFUSED 17 0\n0 0 0\n$(zeros 32)\n0\n" "$small" --ordinates 3 --records 32
+full "REFUSED 17 0\n0 0 0 0\n$(zeros 31)\n0\n" "$small" --ordinates 4 --records 31
+full "REFUSED 17 0\n0 0 0 0\n$(zeros 32)\n0\n" "$small" --ordinates 4 --records 32 --named 2
+full "REFUSED 17 0\n0 0 0 0\n$(zeros 64)\n0\n" "$small" --ordinates 4 --records 64 --named 2
+full "REFUSED 17 0\n0 0 0 0\n\n0\n" "$small" --ordinates 4 --records 0 --named 4294967295
+full "REFUSED 17 0\n\n$(zeros 32)\n0\n" "$small" --ordinates 0 --records 32
+full "REFUSED 17 0\n\n\n0\n" "$small" --ordinates 0 --records 0
+full "REFUSED 1 0\n0 0 0 0\n$(zeros 32)\n0\n" "$small" --ordinates 4 --records 32 --work 5999
+full "REFUSED 1 0\n0\n00\n0\n" "$small" --ordinates 1 --records 1 --work 0
+full "REFUSED 1 0\n0\n00\n0\n" '\xff' --ordinates 1 --records 1 --work 5999
+full "REFUSED 1 0\n0\n00\n0\n" "$(times 60001 x)" --ordinates 1 --records 1 --work 5999
+full "REFUSED 2 0\n0\n00\n0\n" "$(times 60001 x)" --ordinates 1 --records 1 --work 6000
+# other refusals come before 17; a named block is never looked at before it
+full "REFUSED 16 0\n\n\n0\n" "${free}KK A\nQI 1\n" --ordinates 0 --records 0 --named 9
+full "REFUSED 15 3\n\n\n0\n" "${free}ZZ\n" --ordinates 0 --records 0 --named 9
+full "REFUSED 4 6\n0 0 0 0\n$(zeros 32)\n0\n" "${free}KK A\nQI 1\nKK B\nXX\n" --ordinates 4 --records 32 --named 1
+full "REFUSED 9 6\n0 0 0 0 0\n$(zeros 33)\n0\n" "${free}KK A\nQI 1\nKK B\nZZ\n" --ordinates 5 --records 33 --named 1
+full "REFUSED 13 10\n0 0 0 0 0\n$(zeros 70)\n0\n" "${free}KK A\nQI 1\nKK B\nBA 1\nPI 20\nLU\nUI 99999\nZZ\n" --ordinates 5 --records 70 --named 1
+# the records of the paper's deck, in full; the third byte group is the area
+rec_up=55502020202001009600000000 rec_up=${rec_up}0e27070000000002000000007a030a00000000
+rec_riv=524956202020040096000000187ce4040000000003000000a773360900000000
+rec_side=534944452020020000000000000e27070000000002000000002a751500000000
+rec_out=4f5554202020030096000000188a0b0c0000000003000000a79dab1e00000000
+full "4 4\n60000000 147692307 202082840 104788348\n$rec_up$rec_riv$rec_side$rec_out\n0\n" "$pond" --ordinates 4 --records 128
+full "4 4\n0 27692307 82082840 44788348 0\n$rec_up$rec_riv$rec_side$rec_out$(zeros 3)\n0\n" "$pond" --ordinates 5 --records 131 --named 2
+full "REFUSED 17 0\n0 0 0 0\n$(zeros 127)\n0\n" "$pond" --ordinates 4 --records 127 --named 2
+full "REFUSED 17 0\n0 0 0 0\n$(zeros 128)\n0\n" "$pond" --ordinates 4 --records 128 --named 5
+# without --full the rooms are enough whatever the options say
+check 'listing with room options' "$(printf '%bstatus 0, silent' "$one")" \
+    "$(printf '%b' "$small" | run --ordinates 0 --records 0 --work 0 --named 7)"
+
+# ---- 2: length ----------------------------------------------------------
+
+small_length=$(printf '%b' "$small" | wc -c)
+pad() { times $(($1 - small_length)) x; }
+lists "$one" "$small$(pad 60000)"
+refused 2 0 "$small$(pad 60001)"
+refused 2 0 "$(times 60001 '\n')"
+refused 16 0 "$(times 60000 '\n')"
+refused 2 0 "\xff$(times 60000 x)"
+refused 2 0 "$(times 300000 x)"
+refused 3 1 "$(times 60000 x)"
+
+# ---- 3: bytes and lines -------------------------------------------------
+
+for byte in '\x00' '\x01' '\x1f' '\x7f' '\x80' '\xff' '\t' '\r' '\x0b'; do
+    refused 3 2 "*FREE\nKM a${byte}b\nIT 60,,,4\nKK A\nQI 1\nZZ\n"
+    refused 3 2 "*FREE\nKM ab${byte}\x20\nIT 60,,,4\nKK A\nQI 1\nZZ\n"
+done
+lists "$one" "*FREE\nKM \x20\x21\x7e\nIT 60,,,4\nKK A\nQI 1\nZZ\n"
+refused 3 1 'ID\t\n'
+refused 3 5 "${free}KK A\nQI 1\nZZ\x80\n"
+refused 3 5 "${free}KK A\nQI 1\nZZ\r"               # CR without LF at the end
+lists "$one" "${free}KK A\nQI 1\nZZ\r\n"
+lists "$one" "${free}KK A\nQI 1\nZZ"
+refused 3 1 '\r'
+refused 3 1 '\r\r\n'
+refused 3 2 '\r\n\r\r\n'
+refused 16 0 '\r\n'
+refused 3 3 "${free}KK A\r\r\nQI 1\nZZ\n"
+refused 3 1 "\r${free}KK A\nQI 1\nZZ\n"
+refused 3 3 "$free \t \n${inflow}ZZ\n"              # a blank line must pass too
+refused 3 3 "$free$(times 81 ' ')\n${inflow}ZZ\n"
+lists "$one" "$free$(times 80 ' ')\n${inflow}ZZ\n"
+lists "$one" "$free$(times 80 ' ')\r\n${inflow}ZZ\n"
+refused 3 1 "$(times 81 ' ')"
+refused 16 0 "$(times 80 ' ')"
+refused 3 1 "ZZ$(times 79 ' ')\n"
+refused 3 5 "$free${inflow}ZZ$(times 79 ' ')"
+lists "$one" "$free${inflow}ZZ$(times 78 ' ')"
+refused 3 1 'XX\t\n'                                # 3 before 4
+refused 3 1 'ZZ\xff\n'                              # 3 before 5
+refused 3 3 "${free}KK TOOLONGNAME\x80\n"           # 3 before 6
+refused 3 4 "${free}KK A\nQI 100000.01\t\n"         # 3 before 7
+refused 3 4 "${free}KK A\nQI 1 1 1 1 1 \x80\n"      # 3 before 8
+refused 3 4 "${free}KK A\nZZ\x80\n"                 # 3 before 9
+
+# ---- 4: identifiers and controls ---------------------------------------
+
+for line in XX kk Kk K ' K' ' KK' '  KK A' 1 '*' '*F' '*FR' '*FREEX' '*FREE X' \
+    '*FREE,' '*FREE.' '*FIXED' '*FIX 1' '*FIXX' '* FREE' '*free' '*FI' 'Z' \
+    ',' '* ' '**' 'BI 1' 'PB 1' 'IN 1' 'LS' 'IO' 'Z Z' '*FRE E' '*FRE'; do
+    refused 4 2 "ID\n$line\n"
+    refused 4 3 "$free$line\n"
+done
+refused 4 5 "${free}KK A\nQI 1\nzz\n"
+refused 4 5 "${free}KK A\nQI 1\nZ"
+lists "$one" "${free}*FIX\n*FREE     \n*FREE\n${inflow}ZZ\n"
+refused 4 1 '*FREE x\n*FREE\n'
+refused 4 4 "${free}KK A\nXX\nKK B\n"               # 4 before the block's 9
+refused 4 3 '\n \nX\n'                              # blank lines are counted
+refused 4 3 '\r\n \r\nX\r\n'
+
+# ---- 5: place -----------------------------------------------------------
+
+refused 5 3 "${free}ID\n"
+refused 5 4 "${free}KK A\nID\n"
+refused 5 3 "${free}IT 60,,,4\n"
+refused 5 4 "${free}KK A\nIT 60,,,4\n"
+refused 5 3 "${free}IT x\n"                         # 5 before 6
+refused 5 1 'KK A\n'
+refused 5 1 'KK\n'
+refused 5 1 'ZZ\n'
+refused 5 1 'ZZ'
+refused 5 2 'ID\nZZ\n'
+for line in BA PI LU UI QI HC RM; do
+    refused 5 1 "$line\n"
+    refused 5 3 "$free$line\n"
+    refused 5 3 "$free$line x\n"
+done
+refused 5 5 "${free}KK A\nBA 1\nBA 1\n"
+refused 5 5 "${free}KK A\nLU\nLU\n"
+refused 5 5 "${free}KK A\nHC 2\nHC 2\n"
+refused 5 5 "${free}KK A\nRM 1,1,.2\nRM 1,1,.2\n"
+refused 5 6 "${free}KK A\nBA 1\nQI 1\nBA x\n"
+refused 5 7 "${free}KK A\nBA 1\nKM\n*FREE\nBA 0\n"
+refused 9 6 "${free}KK A\nHC 2\nRM 1,1,.2\nZZ\n"    # not a second one: 9
+lists 'A 2 1.00 1.00 1 60000000\nB 2 2.00 1.00 1 60000000\nC 3 3.00 2.00 1 120000000\nEND 3\n' \
+    "${free}KK A\nBA 1\nQI 1\nKK B\nBA 2\nQI 1\nKK C\nHC 2\nZZ\n"
+lists "$one" "ID\nKM\nID a\nKM\n*FREE\nID b,c,d,e,f,g,h,i,j,k,l,m,n\nIT 60,,,4\nKM\n${inflow}KM\nZZ\n"
+lists "$one" "$free${inflow}ZZ\nXX\nZZ\nID\n"
+refused 6 1 'IT x\nIT\n'                            # the first stays the first
+
+# ---- 6: fields ----------------------------------------------------------
+
+area="${free}KK A\nQI 1\n"                          # 4 lines; BA comes fifth
+for value in . + - +. -. 1.2.3 ++1 +-1 1- 1+ 1e3 x 1x x1 1.234 0.000 .001 \
+    0000000001 0000000.001 00000001.50 '1 2' '1,2' '1,0' '1,,0' ',1' '1,,,,,,,,,0' \
+    '1,,,,,,,,,,0' '1;' '1/2' '#' '"1"' '1..' '..1' '1.-' '.+1' 9999999999; do
+    refused 6 5 "${area}BA $value\nZZ\n"
+done
+ba() { printf 'A 2 %s 1.00 1 60000000\\nEND 1\\n' "$1"; }
+lists "$(ba 1.00)" "${area}BA 1\nZZ\n"
+lists "$(ba 1.00)" "${area}BA1\nZZ\n"
+lists "$(ba 1.00)" "${area}BA    1   \nZZ\n"
+lists "$(ba 1.00)" "${area}BA 1,\nZZ\n"
+lists "$(ba 1.00)" "${area}BA 1 ,\nZZ\n"
+lists "$(ba 1.00)" "${area}BA 1,,,,,,,,,,,,,,,,,,\nZZ\n"
+lists "$(ba 1.00)" "${area}BA 1, , , ,\nZZ\n"
+lists "$(ba 1.00)" "${area}BA 1.\nZZ\n"
+lists "$(ba 1.00)" "${area}BA +1.0\nZZ\n"
+lists "$(ba 1.00)" "${area}BA 000000001\nZZ\n"
+lists "$(ba 1.50)" "${area}BA 0000001.50\nZZ\n"
+lists "$(ba 1.50)" "${area}BA +0000001.50\nZZ\n"
+lists "$(ba 0.50)" "${area}BA .5\nZZ\n"
+lists "$(ba 0.05)" "${area}BA +.05\nZZ\n"
+refused 6 2 '*FREE\nIT 60,,,4,1\n'
+refused 6 2 '*FREE\nIT 60,,,4,0\n'
+refused 6 2 '*FREE\nIT 60,,,4,,,,,,0\n'
+refused 6 2 '*FREE\nIT 60,,,4,,,,,,,0\n'
+refused 6 2 '*FREE\nIT 60,,,4.0\n'
+refused 6 2 '*FREE\nIT 0,,,x\n'
+refused 6 2 '*FREE\nIT x,,,0\n'
+refused 6 2 '*FREE\nIT 0,,,301,x\n'                 # 6 before 7
+lists "$one" '*FREE\nIT 60,12JAN,9.9.9,4\nKK A\nQI 1\nZZ\n'
+lists "$one" '*FREE\nIT 60 -- %% 4 ,,,,,,,,,,\nKK A\nQI 1\nZZ\n'
+lists "$one" 'IT    60 1 JAN x  , ,,       4\n*FREE\nKK A\nQI 1\nZZ\n'
+refused 6 1 'IT  6 0                       4\n'
+refused 6 1 'IT    60                       4       0\n'
+refused 6 1 "$(fixed IT 60 '' '' 4 '' '' '' '' '' 0)\n"
+refused 6 4 "${free}KK A\nLU 0,0,0,0\n"
+refused 6 4 "${free}KK A\nLU 0,0,,0\n"
+refused 6 4 "${free}KK A\nLU 0.00001\n"
+refused 6 4 "${free}KK A\nLU 0,0.00001\n"
+refused 6 4 "${free}KK A\nLU 0,0,0.000\n"
+refused 6 4 "${free}KK A\nLU 21,21,1,x\n"
+refused 6 4 "${free}KK A\nHC 2.0\n"
+refused 6 4 "${free}KK A\nHC 2,2\n"
+refused 6 4 "${free}KK A\nHC 9 9\n"
+refused 6 4 "${free}KK A\nRM 1.0,1,0\n"
+refused 6 4 "${free}KK A\nRM 1,1.000,0\n"
+refused 6 4 "${free}KK A\nRM 1,1,0.000\n"
+refused 6 4 "${free}KK A\nRM 1,1,0,0\n"
+refused 6 4 "${free}KK A\nRM 0,0,9,z\n"
+refused 6 4 "${free}KK A\nPI 0.00001\n"
+refused 6 4 "${free}KK A\nUI 0.001\n"
+refused 6 4 "${free}KK A\nQI 0.001\n"
+refused 6 4 "${free}KK A\nQI 1,2,3,x\n"
+refused 6 4 "${free}KK A\nQI 1 2 3 4 5 6 7 8 9 10 11\n"
+refused 6 4 "${free}KK A\nQI ,,,,,,,,,,1\n"         # an eleventh field
+refused 8 4 "${free}KK A\nQI ,,,,,,,,,1\n"          # ten, and ten values
+lists "$(printf 'A 2 0.00 0.00 1 0\\nEND 1\\n')" "${free}KK A\nQI ,,,,,,,,,,,,,,,,,,,,\nZZ\n"
+refused 6 4 "${free}KK A\nQI 100001,x,1,1,1,1\n"    # 6 before 7 and 8
+refused 7 4 "${free}KK A\nQI 1,1,1,1,1,100001\n"    # 7 before 8
+refused 8 4 "${free}KK A\nQI 1,1,1,1,1,1\n"
+refused 6 5 "${free}KK A\nQI 1,1,1,1\nQI x\n"
+refused 7 5 "${free}KK A\nQI 1,1,1,1\nQI -1\n"
+refused 8 5 "${free}KK A\nQI 1,1,1,1\nQI 1\n"
+lists 'A 2 0.00 1.00 1 240000000\nEND 1\n' "${free}KK A\nQI 1,1,1,1\nQI\nQI ,,\nZZ\n"
+# fixed form: a comma, a blank inside, a value across two fields
+fix='IT    60                       4\nKKA\n'       # 2 lines
+refused 6 3 "${fix}QI   1,2\n"
+refused 6 3 "${fix}QI   1 2\n"
+flows '60000000 120000000 0 0' "${fix}QI     12\nZZ\n"
+flows '60000000 0 120000000 0' "$fix$(fixed QI 1 '' 2)\nZZ\n"
+flows '0 0 0 60000000' "$fix$(fixed QI '' '' '' 1)\nZZ\n"
+flows '60000000 0 0 0' "${fix}QI1\nZZ\n"
+flows '60000000 0 0 0' "${fix}QI1     \nZZ\n"
+flows '60000000 120000000 0 0' "${fix}QI 1    2\nZZ\n"
+flows '0 60000000 0 0' "${fix}QI$(times 6 ' ')1\nZZ\n"
+flows '0 60000000 0 0' "${fix}QI$(times 13 ' ')1\nZZ\n"
+flows '0 0 60000000 0' "${fix}QI$(times 14 ' ')1\nZZ\n"
+refused 8 3 "$fix$(fixed QI 1 1 1 1 1)\nZZ\n"
+refused 8 3 "${fix}QI$(times 77 ' ')1\nZZ\n"        # column 80 is field 10
+ten='IT    60                      10\nKKA\n'
+flows '0 0 0 0 0 0 0 0 0 60000000' "${ten}QI$(times 77 ' ')1\nZZ\n"
+flows '0 0 0 0 0 0 0 0 0 60000000' "${ten}QI$(times 70 ' ')1\nZZ\n"
+flows '0 0 0 0 0 0 0 0 60000000 0' "${ten}QI$(times 69 ' ')1\nZZ\n"
+flows "$(times 9 '60000000 ')60000000" "$ten$(fixed QI 1 1 1 1 1 1 1 1 1 1)\nZZ\n"
+refused 9 3 "${fix}ZZ\n"
+lists 'A 2 1234.50 1.00 1 60000000\nEND 1\n' "${fix}BA1234.5\nQI 1\nZZ\n"
+refused 6 3 "${fix}BA1234.56\nQI 1\nZZ\n"           # the 6 stands in field 2
+# free form: separators
+flows '60000000 120000000 180000000 0' "${free}KK A\nQI 1 2   3\nZZ\n"
+flows '60000000 120000000 180000000 0' "${free}KK A\nQI 1, 2 ,3\nZZ\n"
+flows '60000000 120000000 180000000 0' "${free}KK A\nQI1,2 3  \nZZ\n"
+flows '60000000 0 180000000 0' "${free}KK A\nQI 1,,3\nZZ\n"
+flows '60000000 0 180000000 0' "${free}KK A\nQI 1 ,, 3\nZZ\n"
+flows '60000000 0 180000000 0' "${free}KK A\nQI 1, ,3,\nZZ\n"
+flows '60000000 0 180000000 0' "${free}KK A\nQI 1 , , 3 , ,\nZZ\n"
+flows '0 60000000 0 0' "${free}KK A\nQI ,1\nZZ\n"
+flows '0 60000000 0 0' "${free}KK A\nQI   , 1\nZZ\n"
+flows '0 60000000 0 0' "${free}KK A\nQI,1,,\nZZ\n"
+flows '0 0 60000000 0' "${free}KK A\nQI ,,1\nZZ\n"
+
+# names
+named() { lists "$1 2 0.00 1.00 1 60000000\nEND 1\n" "$2"; }
+fixq='IT    60                       4\n'           # 1 line
+named ABCDEF "${fixq}KKABCDEF\nQI 1\nZZ\n"
+named ABCDEF "${fixq}KKABCDEFGHIJ\nQI 1\nZZ\n"      # column 9 on is text
+named ABCDE "${fixq}KK ABCDEFGHIJ\nQI 1\nZZ\n"
+named F "${fixq}KK     FG\nQI 1\nZZ\n"
+named A,B "${fixq}KK A,B\nQI 1\nZZ\n"
+named , "${fixq}KK ,\nQI 1\nZZ\n"
+named A "${fixq}KKA       text, and, more, of, it, a, b, c, d, e, f, g\nQI 1\nZZ\n"
+named '~!@#$^' "${fixq}KK~!@#\$^\nQI 1\nZZ\n"
+refused 6 2 "${fixq}KK\nQI 1\nZZ\n"
+refused 6 2 "${fixq}KK      \nQI 1\nZZ\n"
+refused 6 2 "${fixq}KK      A\nQI 1\nZZ\n"          # column 9 is no name
+refused 6 2 "${fixq}KK A B\nQI 1\nZZ\n"
+refused 6 2 "${fixq}KK UP THE RIVER\nQI 1\nZZ\n"
+named A "${free}KK A\nQI 1\nZZ\n"
+named A "${free}KKA\nQI 1\nZZ\n"
+named A "${free}KK     A B C D E F G H I J K L M\nQI 1\nZZ\n"
+named A "${free}KK A,B\nQI 1\nZZ\n"
+named A "${free}KK A,,,,,,,,,,,,,,,x\nQI 1\nZZ\n"
+named A "${free}KK A , B\nQI 1\nZZ\n"
+named ABCDEF "${free}KK ABCDEF,G\nQI 1\nZZ\n"
+named ABCDEF "${free}KK          ABCDEF G\nQI 1\nZZ\n"
+refused 6 3 "${free}KK ABCDEFG\nQI 1\nZZ\n"
+refused 6 3 "${free}KKABCDEFG\nQI 1\nZZ\n"
+refused 6 3 "${free}KK\nQI 1\nZZ\n"
+refused 6 3 "${free}KK     \nQI 1\nZZ\n"
+refused 6 3 "${free}KK ,A\nQI 1\nZZ\n"
+refused 6 3 "${free}KK,\nQI 1\nZZ\n"
+lists 'A 2 0.00 1.00 1 60000000\nA 2 0.00 1.00 1 60000000\nA 3 0.00 2.00 1 120000000\nEND 3\n' \
+    "$free$inflow${inflow}KK A\nHC 2\nZZ\n"         # equal names are allowed
+
+# text records take any printable text in both forms
+named A "ID,,,\nID a b c d e f g h i j k l m n o p\nIDPOND\n${free}KM,x,,,,,,,,,,,,,,,,y\nKMx\n${inflow}ZZTOP 1,2,3,4,5,6,7,8,9,10,11,12\n"
+
+# ---- 7: limits from both sides ------------------------------------------
+
+it() { printf '*FREE\\nIT %s\\nKK A\\nQI 1\\nZZ\\n' "$1"; }
+for value in 1 1440 +60 1440. 000000001; do lists "$one" "$(it "$value,,,4")"; done
+for value in 0 1441 -1 '' -0 999999999 -60; do refused 7 2 "$(it "$value,,,4")"; done
+for value in 1 300 +4 4. 000000300; do lists "$one" "$(it "60,,,$value")"; done
+for value in 0 301 -4 '' 999999999; do refused 7 2 "$(it "60,,,$value")"; done
+refused 7 2 '*FREE\nIT\n'
+refused 7 1 'IT\n'
+refused 7 1 'IT    60\n'
+refused 7 2 '*FREE\nIT ,,,\n'
+lists "$(ba 0.01)" "${area}BA 0.01\nZZ\n"
+lists "$(ba 9999.99)" "${area}BA 9999.99\nZZ\n"
+for value in 0 -0 0.00 '' 10000 10000.00 -0.01 -1 999999999 ',' ',,'; do
+    refused 7 5 "${area}BA $value\nZZ\n"
+done
+unit="${free}KK A\nBA 1\nLU 0,0\nUI 0.01\n"         # 6 lines
+flows '12000000 0 0 0' "${unit}PI 20\nZZ\n"
+flows '12000000 60 0 0' "${unit}PI 20.0000,.0001\nZZ\n"
+flows '0 0 0 0' "${unit}PI -0,-0.0000,+0,0.\nZZ\n"
+for value in 20.0001 -0.0001 21 -1 99999.9999 999999999; do
+    refused 7 7 "${unit}PI $value\nZZ\n"
+done
+refused 7 7 "${unit}PI 1,2,3,20.0001\nZZ\n"
+wet="${free}KK A\nBA 1\nPI 20\nUI 0.01\n"           # 6 lines
+flows '0 0 0 0' "${wet}LU 20,0\nZZ\n"
+flows '0 0 0 0' "${wet}LU 0,20\nZZ\n"
+flows '0 0 0 0' "${wet}LU 20.0000,20.0000,0.00\nZZ\n"
+flows '12000000 0 0 0' "${wet}LU 19.9999,0\nZZ\n"
+flows '60 0 0 0' "${wet}LU 0,19.9999\nZZ\n"
+flows '12000000 0 0 0' "${wet}LU\nZZ\n"             # blank fields are 0
+flows '12000000 0 0 0' "${wet}LU ,,-0\nZZ\n"
+flows '11994000 0 0 0' "${wet}LU ,0.01,0.\nZZ\n"
+for value in 20.0001 -0.0001 0,20.0001 0,-0.0001 0,0,0.01 0,0,-0.01 0,0,1 ,,5; do
+    refused 7 7 "${wet}LU $value\nZZ\n"
+done
+graph="${free}KK A\nBA 1\nLU 0,0\nPI 0.0001\n"      # 6 lines; excess 60
+flows '599999940 60 0 0' "${graph}UI 99999.99,0.01\nZZ\n"
+flows '0 60 0 0' "${graph}UI -0,0.01\nZZ\n"
+for value in 100000 100000.00 -0.01 1,-1 999999999; do
+    refused 7 7 "${graph}UI $value\nZZ\n"
+done
+for value in 100000.01 -0.01 1,-1 999999999 9999999.99; do
+    refused 7 4 "${free}KK A\nQI $value\nZZ\n"
+done
+flows '0 6000000000000 600000 0' "${free}KK A\nQI -0.00,100000.00,0.01\nZZ\n"
+two="$free$inflow$inflow"                           # 6 lines
+for value in 0 1 6 -2 '' ,, -0 999999999; do refused 7 8 "${two}KK C\nHC $value\nZZ\n"; done
+flows '120000000 0 0 0' "${two}KK C\nHC 2\nZZ\n"
+flows '120000000 0 0 0' "${two}KK C\nHC +2.,,\nZZ\n"
+five="$free$(times 5 "$inflow")"                    # 12 lines
+flows '300000000 0 0 0' "${five}KK C\nHC 5\nZZ\n"
+for value in 0,1,.2 51,1,.2 -1,1,.2 ,1,.2 1,0,.2 1,,.2 1,24.01,0 1,-1,0 \
+    1,1,0.51 1,1,-0.01 1,1,1 '' 1 999999999,1,0 1,9999999.99,0; do
+    refused 7 6 "${qi}RM $value\nZZ\n"
+done
+# the ends of N, K and X, each with the others chosen to meet 12's demands
+minute='*FREE\nIT 1,,,4\nKK A\nQI 7,7,7,7\nKK B\n'  # 5 lines
+steady='420000000 420000000 420000000 420000000'
+flows "$steady" "${minute}RM 1,0.01,0\nZZ\n"        # A 250, B 0, C 300
+flows "$steady" "${minute}RM 1,0.01,0.16\nZZ\n"     # A 250, B 48, C 252
+refused 12 7 "${minute}RM 1,0.01,0.17\nZZ\n"        # C 249
+flows "$steady" "${minute}RM 50,24,0\nZZ\n"         # A 12,500, C 720,000
+flows "$steady" "${minute}RM 50,24.00,-0\nZZ\n"
+flows "$steady" "${minute}RM 50,24.00\nZZ\n"        # X blank is 0
+flows "$steady" "${minute}RM 50,24.00,0.01\nZZ\n"   # B 7,200
+
+# ---- 8: counts ----------------------------------------------------------
+
+ones() { local t; t=$(times "$1" ',1'); printf '%s' "${t#,}"; }
+refused 8 4 "${free}KK A\nPI 1,1,1,1,1\nZZ\n"
+refused 8 5 "${free}KK A\nPI 1,1,1\nPI 1,1\nZZ\n"
+refused 8 8 "${free}KK A\nPI 1,1,1\nKM\nPI 1\nPI\nPI 0\n"
+refused 8 8 "${free}KK A\nPI 1,1,1\nBA 1\nPI 1\nPI\nPI ,0\n"
+ui150=$(times 15 "UI $(ones 10)\n")
+flows '60 60 60 60' "${free}KK A\nBA 1\nPI 0.0001\nLU\n${ui150//1/0.01}ZZ\n"
+refused 8 22 "${free}KK A\nBA 1\nPI 0.0001\nLU\n${ui150}UI 1\nZZ\n"
+refused 8 22 "${free}KK A\nBA 1\nPI 0.0001\nLU\n${ui150}UI 0\nZZ\n"
+refused 9 23 "${free}KK A\nBA 1\nPI 1\nQI 1\n${ui150}UI ,,\nZZ\n"
+qi300=$(times 30 'QI 1e5,1e5,1e5,1e5,1e5,1e5,1e5,1e5,1e5,1e5\n')
+lists 'A 2 0.00 100000.00 1 1800000000000000\nEND 1\n' \
+    "*FREE\nIT 60,,,300\nKK A\n${qi300//1e5/100000}ZZ\n"
+refused 8 34 "*FREE\nIT 60,,,300\nKK A\n${qi300//1e5/100000}QI 1\nZZ\n"
+refused 8 33 "*FREE\nIT 60,,,299\nKK A\n${qi300//1e5/1}ZZ\n"
+pi300=${qi300//QI/PI}
+lists 'A 1 1.00 0.00 1 0\nEND 1\n' "*FREE\nIT 60,,,300\nKK A\nBA 1\nLU\nUI\n${pi300//1e5/20}ZZ\n"
+refused 8 37 "*FREE\nIT 60,,,300\nKK A\nBA 1\nLU\nUI\n${pi300//1e5/20}PI 1\nZZ\n"
+# counts begin anew in each block
+flows '120000000 120000000 120000000 120000000' "${free}KK A\nQI 1,1,1,1\nKK B\nQI 1,1,1\nQI 1\nKK C\nHC 2\nZZ\n"
+# a value of a list does not outlive its block
+flows '60000000 60000000 60000000 60000000' "${free}KK A\nQI 1,1,1,1\nKK B\nQI\nKK C\nHC 2\nZZ\n"
+flows '0 0 0 0' "${free}KK A\nQI 1,1,1,1\nKK B\nQI\nKK C\nHC 2\nZZ\n" 2
+# PI and QI count apart, and lists may be broken by other records
+refused 9 8 "${free}KK A\nPI 1,1,1,1\nQI 1,1,1,1\nUI $(ones 10)\nKM\nZZ\n"
+flows '600000 0 1200000 600000' "${free}KK A\nPI 1\nBA 1\nPI ,2\nKM\nLU\n*FIX\n$(fixed PI 1)\n*FREE\nPI\nUI .01\nZZ\n"
+
+# ---- 9: sets ------------------------------------------------------------
+
+cards=('BA 1\n' 'PI 1\n' 'LU\n' 'UI .01\n' 'QI 1\n' 'HC 2\n' 'RM 1,1,.2\n')
+# every choice of records, behind two held hydrographs: 6 + 1 lines, then ZZ
+for ((set = 0; set < 128; set++)); do
+    body= count=0
+    for ((k = 0; k < 7; k++)); do
+        if ((set >> k & 1)); then body+=${cards[k]} count=$((count + 1)); fi
+    done
+    case $set in
+    15) # BA PI LU UI
+        refused 15 12 "${two}KK C\n${body}ZZ\n" ;;
+    16) # QI
+        refused 15 9 "${two}KK C\n${body}ZZ\n" ;;
+    17) # QI BA
+        refused 15 10 "${two}KK C\n${body}ZZ\n" ;;
+    32) # HC
+        lists 'A 2 0.00 1.00 1 60000000\nA 2 0.00 1.00 1 60000000\nC 3 0.00 2.00 1 120000000\nEND 3\n' "${two}KK C\n${body}ZZ\n" ;;
+    64) # RM
+        refused 15 9 "${two}KK C\n${body}ZZ\n" ;;
+    *)
+        refused 9 $((8 + count)) "${two}KK C\n${body}ZZ\n" ;;
+    esac
+done
+refused 9 4 "${free}KK A\nKK B\n"
+refused 9 5 "${free}KK A\nKM\nKK B\n"
+refused 9 7 "${free}KK A\nBA 1\nPI 1\nLU\nKK B\n"
+lists 'A 1 1.00 0.00 1 0\nEND 1\n' "${free}KK A\nUI\nLU\nPI\nBA 1\nZZ\n"
+lists 'A 2 0.00 0.00 1 0\nEND 1\n' "${free}KK A\nQI\nZZ\n"
+lists 'A 2 0.00 0.00 1 0\nEND 1\n' "${free}KK A\nQI ,,,\nZZ\n"
+refused 6 4 "${free}KK A\nKK TOOLONG\n"             # the line's 6 before the block's 9
+refused 9 4 "${free}KK A\nKK B\nXX\n"
+refused 9 4 "${free}KK A\nZZ\n"                     # 9 before 15
+refused 9 6 "${free}KK A\nHC 2\nQI 1\nZZ\n"         # 9 before 10
+
+# ---- 10, 11 --------------------------------------------------------------
+
+refused 10 5 "${free}KK A\nRM 1,1,.2\nZZ\n"
+refused 10 5 "${free}KK A\nRM 1,1,.2\nKK B\n"
+refused 10 6 "${free}KK A\nHC 2\nKM\nKK B\n"
+refused 10 7 "${free}${inflow}KK B\nHC 2\nZZ\n"
+refused 10 9 "${two}KK B\nHC 5\nZZ\n"
+refused 10 5 "${free}KK A\nRM 1,.5,.2\nZZ\n"        # 10 before 12
+refused 6 5 "${free}KK A\nRM 1,1,.2\nKK ,\n"        # the line's 6 before 10
+refused 10 11 "${two}KK C\nHC 2\nKK D\nHC 2\nZZ\n"  # one is left after a sum
+twenty=$(times 20 "$inflow")
+fives=$(times 4 'KK F\nHC 5\n')
+flows '1200000000 0 0 0' "$free$twenty${fives}KK F\nHC 4\nZZ\n"
+refused 11 45 "$free${twenty}KK B\nQI 1\nKK C\nHC 5\nZZ\n"
+refused 11 48 "$free${twenty}KK B\nBA 1\nPI 20\nLU\nUI 99999\nZZ\n"   # 11 before 13
+# HC and RM with twenty held add none: 42 lines, HC 2, ZZ with 19 held
+refused 15 45 "$free${twenty}KK B\nHC 2\nZZ\n"
+refused 15 45 "$free${twenty}KK B\nRM 1,1,.2\nZZ\n"
+refused 11 49 "$free${twenty}KK B\nHC 2\n$inflow${inflow}ZZ\n"
+refused 15 47 "$free${twenty}KK B\nHC 2\n${inflow}ZZ\n"
+
+# ---- 12, routing --------------------------------------------------------
+
+refused 12 7 "${qi}RM 1,1.01,0.50\nZZ\n"            # B 15,150 over A 15,000
+refused 12 7 "${qi}RM 1,0.49,0\nKK C\n"             # C 14,700 under A
+refused 6 7 "${qi}RM 1,0.49,0\nKK ,\n"              # the line's 6 before 12
+refused 12 7 "${qi}RM 50,24,0\nZZ\n"                # A 750,000 over C 720,000
+refused 12 7 "${qi}RM 49,24,0\nZZ\n"                # A 735,000
+refused 12 7 "${qi}RM 48,24,0.01\nZZ\n"             # A 720,000, C 712,800
+flows '120000000 180000000 120000000 0' '*FREE\nIT 60,,,4\nKK A\nQI 2,4\nKK B\nRM 1,0.50,0\nZZ\n'
+# remainders kept: 60 46 10 3, worked with D 39,000
+drop='BA 1\nPI 0.0001\nLU 0,0\nUI 0.01\n'
+flows '60 46 10 3' "${free}KK A\n${drop}KK B\nRM 1,1,0.2\nZZ\n"
+flows '60 56 40 16' "*FREE\nIT 30,,,4\nKK A\n${drop}KK B\nRM 2,1,0.2\nZZ\n"
+flows '60 56 40 16' "${free}KK A\n${drop}KK B\nRM 1,1,0.2\nKK C\nRM 1,1,0.2\nZZ\n"
+flows '60000000 60000000 60000000 120000000' "${qi}RM 2,2.00,0.50\nZZ\n"   # lag of two
+flows '60000000' '*FREE\nIT 60,,,1\nKK A\nQI 1\nKK B\nRM 1,1,.2\nZZ\n'
+# the largest numerators: A = C = 720,000, all flows at the limit
+top=6000000000000
+flows "$top $top $top $top" '*FREE\nIT 1440,,,4\nKK A\nQI 100000,100000,100000,100000\nKK B\nRM 2,24,0\nZZ\n'
+# two steps of plain averaging: 1 0 0 0 becomes 1 1/2 0 0, then 1 3/4 1/4 0
+flows "$top 4500000000000 1500000000000 0" '*FREE\nIT 1440,,,4\nKK A\nQI 100000\nKK B\nRM 2,24,0\nZZ\n'
+
+# ---- 13 -----------------------------------------------------------------
+
+flows '6000000000000 0 0 0' "${free}KK A\nBA 1\nPI 2\nLU\nUI 50000\nZZ\n"
+refused 13 8 "${free}KK A\nBA 1\nPI 2\nLU\nUI 50000.01\nZZ\n"
+refused 13 8 "${free}KK A\nBA 1\nPI 2,0.0001\nLU\nUI 50000,50000\nZZ\n"
+refused 13 8 "${free}KK A\nBA 1\nPI 0,0,0,2\nLU\nUI 50000.01\nKK B\n"
+flows '0 0 0 0' "${free}KK A\nBA 1\nPI\nLU\nUI 99999.99\nZZ\n"
+flows '0 0 0 0' "${free}KK A\nBA 1\nPI 0,0,0,0\nLU\nUI 99999.99\nZZ\n"
+flows '0 0 0 0' "${free}KK A\nBA 1\nPI 0,0,0,20\nLU\nUI 0,99999.99\nZZ\n"  # beyond the end
+ui_top=$(times 30 'UI x,x,x,x,x\n')
+refused 13 66 "*FREE\nIT 60,,,300\nKK A\nBA 1\nLU\n${pi300//1e5/20}${ui_top//x/99999.99}ZZ\n"
+half="${free}KK A\nQI 50000\nKK B\nQI"
+flows '6000000000000 0 0 0' "$half 50000\nKK C\nHC 2\nZZ\n"
+refused 13 9 "$half 50000.01\nKK C\nHC 2\nZZ\n"
+flows '3000000000000 6000000000000 0 0' "$half 0,100000\nKK C\nHC 2\nZZ\n"
+refused 13 15 "$free$(times 5 'KK A\nQI 100000\n')KK C\nHC 5\nZZ\n"
+flows '6000000000000 0 0 0' "$free$(times 5 'KK A\nQI 20000\n')KK C\nHC 5\nZZ\n"
+refused 6 9 "$half 50000.01\nKK C\nHC 2\nKK\n"      # the line's 6 before 13
+refused 13 9 "$half 100000\nKK C\nHC 2\nZZ\n"       # 13 before 15
+
+# ---- 14, 15, 16 ----------------------------------------------------------
+
+routed=$(times 199 'KK R\nRM 1,1,.2\n')             # with inflow: 402 lines
+got=$(printf '%b' "$free$inflow${routed}ZZ\n" | run | tail -n 2)
+check '200 blocks' "$(printf 'END 200\nstatus 0, silent')" "$got"
+got=$(printf '%b' "$free$inflow${routed}ZZ\n" | run | sed -n 200p)
+check 'the 200th block' 'R 4 0.00 1.00 1 ' "${got%"${got##* }"}"
+refused 14 403 "$free$inflow${routed}KK S\nRM 1,1,.2\nZZ\n"
+refused 14 403 "$free$inflow${routed}KK S"
+refused 6 403 "$free$inflow${routed}KK ,\n"         # 6 before 14
+refused 9 402 "$free$inflow${routed%'RM 1,1,.2\n'}KK S\n"           # 9 before 14
+refused 12 403 "$free$inflow${routed%'1,1,.2\n'}1,.5,.2\nKK S\n"    # 12 before 14
+full "REFUSED 17 0\n0 0 0 0\n$(zeros 6399)\n0\n" "$free$inflow${routed}ZZ\n" --ordinates 4 --records 6399 --named 200
+full "REFUSED 17 0\n0 0 0 0\n$(zeros 6400)\n0\n" "$free$inflow${routed}ZZ\n" --ordinates 4 --records 6400 --named 201
+refused 15 3 "${free}ZZ\n"
+refused 15 3 "${free}ZZ"
+refused 15 7 "${two}ZZ\n"
+refused 15 8 "$two\nZZ\nZZ\n"
+refused 15 9 "${two}KK C\nRM 1,1,.2\nZZ\n"
+refused 16 0 ''
+refused 16 0 '\n'
+refused 16 0 '   '
+refused 16 0 '*FREE'
+refused 16 0 'ID\nKM\n'
+refused 16 0 "$free"
+refused 16 0 "$free$inflow"
+refused 16 0 "${free}KK A\n"                        # an open block is not judged
+refused 16 0 "${free}KK A\nHC 2\nRM 1,1,.2"
+refused 16 0 "$free${inflow}KM ZZ\n"
+refused 3 5 "$free$inflow\t"                        # 3 before 16
+refused 4 5 "$free${inflow}Q"
+refused 8 4 "${free}KK A\nQI 1 1 1 1 1"
+
+# ---- Water ---------------------------------------------------------------
+
+ui12="BA 1\nLU 0,0\nUI 1,2\n"
+flows '60000000 180000000 120000000 0' "${free}KK A\n${ui12}PI 1,1\nZZ\n"
+flows '60000000 180000000' "*FREE\nIT 60,,,2\nKK A\n${ui12}PI 1,1\nZZ\n"
+flows '60000000 180000000' "*FREE\nIT 60,,,2\nKK A\nBA 1\nLU 0,0\nUI 1,2,3,4\nPI 1,1\nZZ\n"
+flows '0 60000000 120000000 60000000' "${free}KK A\n${ui12}PI 0,1,,1\nZZ\n"
+loss() { printf '*FREE\\nIT %s,,,4\\nKK A\\nBA 1\\nUI .01\\nLU %s\\nPI %s\\nZZ\\n' "$1" "$2" "$3"; }
+flows '0 0 84000 84000' "$(loss 60 0.5,0.06 0.2,0.2,0.2,0.2)"
+flows '0 120000 120000 0' "$(loss 60 0.2,0 0.2,0.2,0.2)"        # met exactly
+flows '0 120000 120000 0' "$(loss 60 0.3999,0 0.2,0.2,0.2)"
+flows '0 0 120000 0' "$(loss 60 0.4,0 0.2,0.2,0.2)"
+flows '0 0 600000 0' "$(loss 60 0,0 0,0,1)"
+flows '0 0 599999 0' "$(loss 1 0,0.0001 0,0,1)"
+flows '0 598560 0 598560' "$(loss 1440 0,0.0001 0,1,0,1)"
+flows '11800000 0 0 0' "$(loss 1 0,20 20)"
+flows '0 0 0 0' "$(loss 1440 0,20 20,20,20,20)"
+flows '0 0 0 6000' "$(loss 60 0,0.1 0.1,0.05,0.0999,0.11)"
+flows '0 60 60 60' "$(loss 60 0.0001,0 0.0001,0.0001,0.0001,0.0001)"
+flows '0 0 600000 0' "$(loss 60 1,0 0.5,0.5,1,0)"
+# peaks print in hundredths, half up; the sum does not round
+lists 'A 1 1.00 0.00 1 299999\nEND 1\n' "$(loss 1 0,0.0001 0.5)"
+lists 'A 1 1.00 0.01 1 300000\nEND 1\n' "$(loss 1 0,0 0.5)"
+lists 'A 1 1.00 0.01 1 899999\nEND 1\n' "$(loss 1 0,0.0001 1.5)"
+lists 'A 1 1.00 0.02 1 900000\nEND 1\n' "$(loss 1 0,0 1.5)"
+# the last held are added, and areas with them; routing keeps its area
+lists 'A 2 1.50 1.00 1 60000000\nB 2 2.25 2.00 1 120000000\nC 2 0.00 4.00 1 240000000\nD 3 2.25 6.00 1 360000000\nE 3 3.75 7.00 1 420000000\nEND 5\n' \
+    "${free}KK A\nBA 1.5\nQI 1\nKK B\nQI 2\nBA 2.25\nKK C\nQI 4\nKK D\nHC 2\nKK E\nHC 2\nZZ\n"
+lists 'A 2 1.50 1.00 1 60000000\nB 2 2.25 0.00 1 0\nR 4 2.25 0.00 1 0\nD 3 3.75 1.00 1 60000000\nEND 4\n' \
+    "${free}KK A\nBA 1.5\nQI 1\nKK B\nQI 0\nBA 2.25\nKK R\nRM 1,1,0.2\nKK D\nHC 2\nZZ\n"
+# only the last held one is routed
+flows '60000000 60000000 120000000 180000000' "${free}KK Z\nQI 9,9,9,9\nKK A\nQI 1,2,3,4\nKK B\nRM 1,1,.5\nKK C\nHC 2\nZZ\n" 3
+flows '600000000 600000000 660000000 720000000' "${free}KK Z\nQI 9,9,9,9\nKK A\nQI 1,2,3,4\nKK B\nRM 1,1,.5\nKK C\nHC 2\nZZ\n"
+flows '540000000 540000000 540000000 540000000' "${free}KK Z\nQI 9,9,9,9\nKK A\nQI 1,2,3,4\nKK B\nRM 1,1,.5\nKK C\nHC 2\nZZ\n" 1
+# a sum of areas may pass the limit of a single one
+lists "$(times 5 'A 2 9999.99 1.00 1 60000000\n')C 3 49999.95 5.00 1 300000000\nEND 6\n" \
+    "$free$(times 5 'KK A\nBA 9999.99\nQI 1\n')KK C\nHC 5\nZZ\n"
+
+# ---- Bundles and cases ---------------------------------------------------
+
+le4() { # a number as 4 bytes
+    local n=$1
+    printf '\\x%02x\\x%02x\\x%02x\\x%02x' $((n & 255)) $((n >> 8 & 255)) $((n >> 16 & 255)) $((n >> 24 & 255))
+}
+sized() { # a deck behind its length
+    local n
+    n=$(printf '%b' "$1" | wc -c)
+    printf '%s%s' "$(le4 "$n")" "$1"
+}
+# bundle MODE EXPECTED STATUS INPUT
+bundle() {
+    local expected got
+    printf -v expected '%bstatus %s' "$2" "$3"
+    got=$(printf '%b' "$4" | run "$1")
+    check "$1 $4" "$expected" "$got"
+}
+long=$(times 70000 x)
+ok='0, silent'
+bundle --bundle '' "$ok" ''
+bundle --bundle "$pond_list--\n" "$ok" "$(sized "$pond")"
+bundle --bundle "$pond_list--\nREFUSED 16 0\n--\nREFUSED 2 0\n--\n$one--\n" "$ok" \
+    "$(sized "$pond")$(sized '')$(sized "$long")$(sized "$small")"
+bundle --bundle "$one--\nREFUSED 2 0\n--\n$one--\n" "$ok" \
+    "$(sized "$small$(pad 60000)")$(sized "$small$(pad 60001)")$(sized "$small")"
+bundle --bundle "$one--\n" '2, said' "$(sized "$small")\x01"
+bundle --bundle "$one--\n" '2, said' "$(sized "$small")\x01\x00\x00"
+bundle --bundle "$one--\n" '2, said' "$(sized "$small")\x01\x00\x00\x00"
+bundle --bundle "" '2, said' "$(le4 100000)$long"
+bundle --bundle "" '2, said' "$(le4 4000000000)ZZ"
+case_of() { printf '%s%s%s%s%s' "$(le4 "$1")" "$(le4 "$2")" "$(le4 "$3")" "$(le4 "$4")" "$(sized "$5")"; }
+bundle --cases '' "$ok" ''
+bundle --cases "4 1\n60000000 0 0 0 0\n${rec_a}00\n0\n--\n" "$ok" "$(case_of 0 6000 5 33 "$small")"
+bundle --cases "4 4\n0 27692307 82082840 44788348\n$rec_up$rec_riv$rec_side$rec_out\n0\n--\nREFUSED 1 0\n0\n00\n0\n--\nREFUSED 17 0\n\n\n0\n--\nREFUSED 2 0\n0 0\n0000\n0\n--\n4 1\n60000000 0 0 0\n$rec_a\n0\n--\n" "$ok" \
+    "$(case_of 2 6000 4 128 "$pond")$(case_of 0 5999 1 1 "$pond")$(case_of 0 9000 0 0 "$pond")$(case_of 0 6000 2 2 "$long")$(case_of 1 6000 4 32 "$small")"
+bundle --cases '' '2, said' "$(le4 1)"
+bundle --cases '' '2, said' "$(le4 1)$(le4 6000)$(le4 1)$(le4 1)$(le4 3)ZZ"
+check 'an unknown option' 'status 2, said' "$(run --nonsense </dev/null)"
+check 'an option without its number' 'status 2, said' "$(run --full --named </dev/null)"
+check 'an option with a bad number' 'status 2, said' "$(run --full --named 1x </dev/null)"
+check 'two modes' 'status 2, said' "$(run --full --cases </dev/null)"
+
+# ---- Fuzz ----------------------------------------------------------------
+
+if "$fuzz" >"$scratch/fuzz" 2>&1; then
+    passed=$((passed + 1))
+    cat "$scratch/fuzz"
+else
+    failed=$((failed + 1))
+    echo 'FAILED: fuzz'
+    tail -n 40 "$scratch/fuzz"
+fi
+
+echo "$passed passed, $failed failed"
+[ "$failed" -eq 0 ]
