@@ -6,7 +6,6 @@ pub mod Numbers
 pub mod Records
 pub mod Water
 pub mod Blocks
-pub mod Network
 pub mod Results
 pub mod Run
 pub mod Listing

@@ -1,0 +1,4 @@
+-- The network of a deck and point 3. The definitions first: Network and Order.
+pub mod Network
+pub mod Order
+pub mod Pairing
