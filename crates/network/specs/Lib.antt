@@ -2,3 +2,5 @@
 pub mod Network
 pub mod Order
 pub mod Pairing
+pub mod Flows
+pub mod Drawing
