@@ -4,3 +4,4 @@ pub mod Order
 pub mod Pairing
 pub mod Flows
 pub mod Drawing
+pub mod Steps
