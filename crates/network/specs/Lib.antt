@@ -5,3 +5,4 @@ pub mod Pairing
 pub mod Flows
 pub mod Drawing
 pub mod Steps
+pub mod Refusals
