@@ -6,3 +6,5 @@ pub mod Flows
 pub mod Drawing
 pub mod Steps
 pub mod Refusals
+pub mod Answers
+pub mod Point3

@@ -34,6 +34,10 @@ abbrev pub every : Nets → Nets
 every none = none
 every (net b bs others) = every others beside (every bs beside net b bs none)
 
+-- Each block of a network with the hydrograph that the network alone defines.
+abbrev pub networkResults : Time → Nets → List Result
+networkResults τ s = resultsOf τ (every s)
+
 -- A deck's network joins each block to the blocks whose hydrographs it takes, those last left, found as though any number could be held.
 abbrev pub last : ℕ → Nets → Nets
 last zero s = none

@@ -28,7 +28,7 @@ first-zero : (m : ℕ) {n : ℕ} → first m n ≡ 0 → (m ≡ 0) × (n ≡ 0)
 first-zero zero e = (refl, e)
 first-zero (suc m) e = absurd (omega arith)
 
-met-zero : (t : Bool) (n : ℕ) → met t (suc n) ≡ 0 → t ≡ false
+pub met-zero : (t : Bool) (n : ℕ) → met t (suc n) ≡ 0 → t ≡ false
 met-zero true n e = absurd (omega arith)
 met-zero false n e = refl
 
