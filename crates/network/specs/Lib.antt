@@ -1,4 +1,4 @@
--- The network of a deck and point 3. The definitions first: Network and Order.
+-- The network of a deck and point 3. The definitions are Network and Order, the theorem is Point3; between them stand the laws that prove it.
 pub mod Network
 pub mod Order
 pub mod Pairing
@@ -7,4 +7,7 @@ pub mod Drawing
 pub mod Steps
 pub mod Refusals
 pub mod Answers
+pub mod Ready
+pub mod Named
 pub mod Point3
+pub mod Examples

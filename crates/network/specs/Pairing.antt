@@ -59,7 +59,7 @@ off-chained (pair a p q) r =
     let i = partner a r in
     pair (i .stands) (off-chained p (i .pairs)) (off-chained q (i .rest))
 
-off-refl : (s : Nets) → PairOff s s
+pub off-refl : (s : Nets) → PairOff s s
 off-refl none = nothing
 off-refl (net b bs s) = pair here (off-refl bs) (off-refl s)
 
