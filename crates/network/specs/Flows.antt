@@ -2,7 +2,7 @@
 --     total-same      networks that pair off bring the same in all
 --     results-same    their last blocks have the same hydrographs
 --     Fit, sound-same blocks that meet no refusal but perhaps 11; with one network so has the other
-use mathlib.Core.Path.{_≡_, refl, sym, _∙_}
+use mathlib.Core.Path.{_≡_, refl, sym, ap, _∙_}
 use mathlib.Core.Bool.{Bool, false}
 use mathlib.Core.List.{List, [], _∷_, List·Permᴰ, List·Permᴰ·nil, List·Permᴰ·cons, List·Permᴰ·swap, List·Permᴰ·trans}
 use Prim.Native.Nat.{ℕ, zero, suc, _+_, _≤_}
@@ -12,7 +12,7 @@ use Rattle.meaning.specs.Water.{plus}
 use Rattle.meaning.specs.Blocks.{Time, Block, kindNumber, kindOf, Held, both, total, takes, made, broken}
 use Rattle.meaning.specs.Results.{Result}
 use Rattle.meaning.specs.Run.{flowRefusal}
-use Rattle.network.specs.Network.{Nets, none, net, count, hydrographs, resultsOf}
+use Rattle.network.specs.Network.{Nets, none, net, count, makes, hydrographs, resultsOf}
 use Rattle.network.specs.Pairing.{Same, both-none, paired, swapped, chained, count-same, Each, each-same}
 
 plus-none : (xs : List ℕ) → plus xs [] ≡ xs
@@ -38,14 +38,17 @@ module _ (τ : Time) where
   total-same both-none = refl
   total-same (paired p q) = rw (total-same p, total-same q)
   total-same (swapped {b} {c} {bs} {cs} {s}) =
-      both-turn (made τ b (total (hydrographs τ bs))) (made τ c (total (hydrographs τ cs))) (total (hydrographs τ s))
+      both-turn (makes τ b (hydrographs τ bs)) (makes τ c (hydrographs τ cs)) (total (hydrographs τ s))
   total-same (chained p q) = total-same p ∙ total-same q
 
+  makes-same : (b : Block) {bs cs : Nets} → Same bs cs → makes τ b (hydrographs τ bs) ≡ makes τ b (hydrographs τ cs)
+  makes-same b p = ap (made τ b) (total-same p)
+
   abbrev resultOf : Block → Nets → Result
-  resultOf b bs = record { block = b; held = made τ b (total (hydrographs τ bs)) }
+  resultOf b bs = record { block = b; held = makes τ b (hydrographs τ bs) }
 
   result-same : (b : Block) {bs cs : Nets} → Same bs cs → resultOf b bs ≡ resultOf b cs
-  result-same b p = rw (total-same p)
+  result-same b p = ap (λ (h : Held). record { block = b; held = h }) (makes-same b p)
 
   pub results-same : {s t : Nets} → Same s t → List·Permᴰ (resultsOf τ s) (resultsOf τ t)
   results-same both-none = List·Permᴰ·nil
@@ -58,11 +61,11 @@ module _ (τ : Time) where
     pub kind : (kindNumber (kindOf b) =? 0) ≡ false
     pub branches : takes b ≤ count bs
     pub routable : broken τ b ≡ false
-    pub flow : flowRefusal (made τ b (total (hydrographs τ bs))) ≡ 0
+    pub flow : flowRefusal (makes τ b (hydrographs τ bs)) ≡ 0
 
   fit-same : (b : Block) (bs cs : Nets) → Same bs cs → Fit b bs → Fit b cs
   fit-same b bs cs p f =
-      record { kind = f .kind; branches = rw (count-same p) at (f .branches); routable = f .routable; flow = rw (total-same p) at (f .flow) }
+      record { kind = f .kind; branches = rw (count-same p) at (f .branches); routable = f .routable; flow = rw (makes-same b p) at (f .flow) }
 
   pub fit-all-same : {s t : Nets} → Same s t → Each Fit s → Each Fit t
   fit-all-same p f = each-same fit-same p f

@@ -14,15 +14,19 @@ abbrev pub count : Nets → ℕ
 count none = 0
 count (net b bs others) = suc (count others)
 
--- What each of them brings: a block makes its hydrograph from the sum of its branches'.
+-- A block makes its hydrograph from the sum of what its branches bring.
+abbrev pub makes : Time → Block → List Held → Held
+makes τ b brought = made τ b (total brought)
+
+-- What each of them brings.
 abbrev pub hydrographs : Time → Nets → List Held
 hydrographs τ none = []
-hydrographs τ (net b bs others) = made τ b (total (hydrographs τ bs)) ∷ hydrographs τ others
+hydrographs τ (net b bs others) = makes τ b (hydrographs τ bs) ∷ hydrographs τ others
 
 -- Their last blocks, each with the hydrograph that its network defines.
 abbrev pub resultsOf : Time → Nets → List Result
 resultsOf τ none = []
-resultsOf τ (net b bs others) = record { block = b; held = made τ b (total (hydrographs τ bs)) } ∷ resultsOf τ others
+resultsOf τ (net b bs others) = record { block = b; held = makes τ b (hydrographs τ bs) } ∷ resultsOf τ others
 
 infixr 5 _beside_
 abbrev pub _beside_ : Nets → Nets → Nets

@@ -16,7 +16,7 @@ use Rattle.meaning.specs.Blocks.{Time, Block, kindNumber, kindOf, Held, total, 
 use Rattle.meaning.specs.Results.{Result}
 use Rattle.meaning.specs.Run.{heldFor, heldAfter, shapeRefusal, flowRefusal, closingRefusal}
 use Rattle.sequences.specs.Choices.{below-or-not}
-use Rattle.network.specs.Network.{Nets, none, net, count, hydrographs, resultsOf, every, last, allBut, joined, drawn, networkOf}
+use Rattle.network.specs.Network.{Nets, none, net, count, makes, hydrographs, resultsOf, every, last, allBut, joined, drawn, networkOf}
 use Rattle.network.specs.Order.{mostHeld}
 use Rattle.network.specs.Pairing.{Each}
 use Rattle.network.specs.Flows.{Fit}
@@ -49,7 +49,7 @@ module _ (τ : Time) where
   held-last : (n : ℕ) (s : Nets) → take n (hydrographs τ s) ≡ hydrographs τ (last n s)
   held-last zero s = refl
   held-last (suc n) none = refl
-  held-last (suc n) (net b bs s) = ap (λ (hs : List Held). made τ b (total (hydrographs τ bs)) ∷ hs) (held-last n s)
+  held-last (suc n) (net b bs s) = ap (λ (hs : List Held). makes τ b (hydrographs τ bs) ∷ hs) (held-last n s)
 
   held-allBut : (n : ℕ) (s : Nets) → drop n (hydrographs τ s) ≡ hydrographs τ (allBut n s)
   held-allBut zero s = refl
@@ -60,8 +60,8 @@ module _ (τ : Time) where
   held-count none = refl
   held-count (net b bs s) = ap suc (held-count s)
 
-  held-for : (b : Block) (s : Nets) → heldFor τ b (hydrographs τ s) ≡ made τ b (total (hydrographs τ (last (takes b) s)))
-  held-for b s = ap (λ (hs : List Held). made τ b (total hs)) (held-last (takes b) s)
+  held-for : (b : Block) (s : Nets) → heldFor τ b (hydrographs τ s) ≡ makes τ b (hydrographs τ (last (takes b) s))
+  held-for b s = ap (makes τ b) (held-last (takes b) s)
 
   held-after : (b : Block) (s : Nets) → heldAfter τ b (hydrographs τ s) ≡ hydrographs τ (joined b s)
   held-after b s = rw (held-for b s, held-allBut (takes b) s)
