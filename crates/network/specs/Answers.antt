@@ -12,12 +12,17 @@ use Rattle.meaning.specs.Words.{_<?_, if_then_else_}
 use Rattle.meaning.specs.Blocks.{Time, Block, Held}
 use Rattle.meaning.specs.Results.{Result}
 use Rattle.meaning.specs.Run.{Worked, Stopped, Done, worked, Lent, Answer, Accepted, Refused, Outcome, refused, accepted, noRoom, settled, outcome}
+use Rattle.meaning.specs.Pond.{blocksOf}
 use Rattle.network.specs.Order.{Enough}
 use Rattle.network.specs.Steps.{closedFrom}
 
 pub length-closed : (τ : Time) (held : List Held) (bs : List Block) → length (closedFrom τ held bs) ≡ length bs
 length-closed τ held [] = refl
 length-closed τ held (b ∷ bs) = ap suc (length-closed τ _ bs)
+
+pub blocks-closed : (τ : Time) (held : List Held) (bs : List Block) → blocksOf (closedFrom τ held bs) ≡ bs
+blocks-closed τ held [] = refl
+blocks-closed τ held (b ∷ bs) = ap (λ (cs : List Block). b ∷ cs) (blocks-closed τ _ bs)
 
 -- Room is enough just where 1 and 17 are not met.
 either-false : (s t : Bool) → (s || t) ≡ false → (s ≡ false) × (t ≡ false)

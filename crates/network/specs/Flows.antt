@@ -1,7 +1,8 @@
 -- What is held for a block depends on the sum of its branches, and a sum does not look at their order. Nothing here looks inside `made`.
 --     total-same      networks that pair off bring the same in all
+--     makes-same      a block whose branches pair off makes the same of them
 --     results-same    their last blocks have the same hydrographs
---     Fit, sound-same blocks that meet no refusal but perhaps 11; with one network so has the other
+--     Fit, fit-all-same    blocks that meet no refusal but perhaps 11: where the one network has only such, so has the other
 use mathlib.Core.Path.{_≡_, refl, sym, ap, _∙_}
 use mathlib.Core.Bool.{Bool, false}
 use mathlib.Core.List.{List, [], _∷_, List·Permᴰ, List·Permᴰ·nil, List·Permᴰ·cons, List·Permᴰ·swap, List·Permᴰ·trans}
@@ -30,25 +31,28 @@ plus-turn (x ∷ xs) [] zs = refl
 plus-turn (x ∷ xs) (y ∷ ys) [] = plus-comm (x ∷ xs) (y ∷ ys)
 plus-turn (x ∷ xs) (y ∷ ys) (z ∷ zs) = rw (add-left-comm x y z, plus-turn xs ys zs)
 
+both-equal : {f g h k : Held} → f ≡ g → h ≡ k → both f h ≡ both g k
+both-equal d e = rw (d, e)
+
 both-turn : (f g h : Held) → both f (both g h) ≡ both g (both f h)
 both-turn f g h = rw (add-left-comm (f .area) (g .area) (h .area), plus-turn (f .flow) (g .flow) (h .flow))
 
 module _ (τ : Time) where
   pub total-same : {s t : Nets} → Same s t → total (hydrographs τ s) ≡ total (hydrographs τ t)
   total-same both-none = refl
-  total-same (paired p q) = rw (total-same p, total-same q)
+  total-same (paired {b} p q) = both-equal (ap (made τ b) (total-same p)) (total-same q)
   total-same (swapped {b} {c} {bs} {cs} {s}) =
       both-turn (makes τ b (hydrographs τ bs)) (makes τ c (hydrographs τ cs)) (total (hydrographs τ s))
   total-same (chained p q) = total-same p ∙ total-same q
 
-  makes-same : (b : Block) {bs cs : Nets} → Same bs cs → makes τ b (hydrographs τ bs) ≡ makes τ b (hydrographs τ cs)
+  pub makes-same : (b : Block) {bs cs : Nets} → Same bs cs → makes τ b (hydrographs τ bs) ≡ makes τ b (hydrographs τ cs)
   makes-same b p = ap (made τ b) (total-same p)
 
   abbrev resultOf : Block → Nets → Result
   resultOf b bs = record { block = b; held = makes τ b (hydrographs τ bs) }
 
   result-same : (b : Block) {bs cs : Nets} → Same bs cs → resultOf b bs ≡ resultOf b cs
-  result-same b p = ap (λ (h : Held). record { block = b; held = h }) (makes-same b p)
+  result-same b p = rw (makes-same b p)
 
   pub results-same : {s t : Nets} → Same s t → List·Permᴰ (resultsOf τ s) (resultsOf τ t)
   results-same both-none = List·Permᴰ·nil

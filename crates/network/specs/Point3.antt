@@ -1,4 +1,5 @@
 -- POINT 3: the order in which a network is written down does not matter.
+--     same-hydrograph          paired blocks have the same hydrograph
 --     accepted-by-network      each block of an accepted deck has the hydrograph that the network alone defines
 --     order-does-not-matter    another deck that draws the same network gives every block the same, or more than twenty would be waiting at once (11)
 -- An accepted deck shows that every block is fit, one is held at the end and 200 are not passed. Networks that pair off share all three, and then 11 alone is left.
@@ -11,15 +12,20 @@ use lib.ListN.{length}
 use Rattle.meaning.specs.Blocks.{Time, Block}
 use Rattle.meaning.specs.Results.{Result, recordOf}
 use Rattle.meaning.specs.Run.{Stopped, Done, worked, Lent, Accepted, Outcome, namedFlow, refused, accepted, outcome}
-use Rattle.network.specs.Network.{every, networkResults, networkOf}
+use Rattle.meaning.specs.Pond.{blocksOf}
+use Rattle.network.specs.Network.{Nets, makes, hydrographs, every, networkResults, networkOf}
 use Rattle.network.specs.Order.{Said, Unsound, Sound, said, PairOff, mostWaiting, Enough}
 use Rattle.network.specs.Pairing.{off-same, same-off, every-same}
-use Rattle.network.specs.Flows.{results-same}
+use Rattle.network.specs.Flows.{makes-same, results-same}
 use Rattle.network.specs.Steps.{WorkedAs, worked-as-said}
 use Rattle.network.specs.Refusals.{closed-by-network}
-use Rattle.network.specs.Answers.{length-closed, enough-room, outcome-done, outcome-stopped, passed-all}
+use Rattle.network.specs.Answers.{length-closed, blocks-closed, enough-room, outcome-done, outcome-stopped, passed-all}
 use Rattle.network.specs.Ready.{Ready, as-many, ready-same, done-on, done-or-eleven}
 use Rattle.network.specs.Named.{resultAt, named-at, moved}
+
+-- A block's hydrograph does not depend on the order of its branches, nor on that of theirs.
+pub same-hydrograph : (τ : Time) (b : Block) {bs cs : Nets} → PairOff bs cs → makes τ b (hydrographs τ bs) ≡ makes τ b (hydrographs τ cs)
+same-hydrograph τ b p = makes-same τ b (off-same p)
 
 -- FIRST HALF: what an accepted deck has shown of itself.
 pub record ByNetwork (deck : List ℕ) (named : ℕ) (lent : Lent) (τ : Time) (bs : List Block) : Type 0 where
@@ -30,12 +36,15 @@ pub record ByNetwork (deck : List ℕ) (named : ℕ) (lent : Lent) (τ : Time) (
   pub waiting : mostWaiting bs ≤ 20
   -- answer, ordinates and records are those of blocks that have the hydrographs which the network alone defines
   pub defined : outcome deck named lent ≡ accepted named τ (networkResults τ (networkOf bs)) lent
+  -- one for each block, in the deck's order
+  pub complete : blocksOf (networkResults τ (networkOf bs)) ≡ bs
 
 -- SECOND HALF: what becomes of another deck that draws the same network. It is accepted too, with the same NQ and block count, and its hydrographs are again those that
 -- the network alone defines ..
 pub record AcceptedToo (τ : Time) (cs : List Block) (named : ℕ) (lent : Lent) (one two : Outcome) : Type 0 where
   pub answer : two .answer ≡ one .answer
   pub defined : two ≡ accepted named τ (networkResults τ (networkOf cs)) lent
+  pub complete : blocksOf (networkResults τ (networkOf cs)) ≡ cs
 
 -- .. or it is refused by 11, since more than twenty would be waiting at once.
 pub record TooManyWaiting (cs : List Block) (lent : Lent) (two : Outcome) : Type 0 where
@@ -65,6 +74,9 @@ pub record OrderFree (τ : Time) (bs cs : List Block) (named₁ named₂ : ℕ) 
 length-results : (τ : Time) (bs : List Block) → length (networkResults τ (networkOf bs)) ≡ length bs
 length-results τ bs = ap (length {A = Result}) (sym (closed-by-network τ bs)) ∙ length-closed τ [] bs
 
+blocks-results : (τ : Time) (bs : List Block) → blocksOf (networkResults τ (networkOf bs)) ≡ bs
+blocks-results τ bs = ap blocksOf (sym (closed-by-network τ bs)) ∙ blocks-closed τ [] bs
+
 -- Lines that were worked to their end had read soundly.
 sound-done : (deck : List ℕ) (x : Said) (σ : Time) (qs : List Result) → said deck ≡ x → WorkedAs x (worked deck) → worked deck ≡ Done σ qs
     → (τ : Time) × (bs : List Block) × (said deck ≡ Sound τ bs)
@@ -87,6 +99,7 @@ by-network deck named lent nq blocks τ bs sound answer =
         room = room;
         waiting = on .waiting;
         defined = outcome-done deck named lent rs (p .short) room (length-results τ bs) (on .results);
+        complete = blocks-results τ bs;
       },
       on .ready,
     )
@@ -137,7 +150,7 @@ order-does-not-matter one two named₁ named₂ lent₁ lent₂ τ₁ τ₂ bs c
           ⊎-elim
           (λ (done : worked two ≡ Done τ₁ qs).
           let o = outcome-done two named₂ lent₂ qs short room (length-results τ₁ cs) done in
-          inl (record { answer = rw (o, first .0 .defined, length-results τ₁ cs, length-results τ₁ bs, as-many bs cs p); defined = o }))
+          inl (record { answer = rw (o, first .0 .defined, length-results τ₁ cs, length-results τ₁ bs, as-many bs cs p); defined = o; complete = blocks-results τ₁ cs }))
           (λ (stop : (line : ℕ) × (worked two ≡ Stopped 11 line) × (20 < mostWaiting cs)).
           inr (record { line = stop .0; refusal = outcome-stopped two named₂ lent₂ short (room .work) (stop .1); waiting = stop .2 }))
           (done-or-eleven τ₁ cs (worked two) (ready-same τ₁ bs cs p (first .1)) (rw sound at (worked-as-said two)));

@@ -121,7 +121,7 @@ module _ (τ : Time) where
   unfolding firstRefusal
   eleven-only k s b [] h f e =
       let n = count (allBut (takes b) s) in
-      rw (closing-fit b s (f .0), count-after b s, lt-leb 20 n (omega arith), eq-eqb (suc n) 1 e, le-ltb 20 (max (suc n) 0) (omega arith))
+      rw (closing-fit b s (f .0), count-after b s, lt-leb 20 n (omega arith), eq-eqb (suc n) 1 e, le-ltb 20 (mostHeld (b ∷ []) s) (omega arith))
   eleven-only k s b (c ∷ bs) h f e =
       let n = count (allBut (takes b) s) in
       let m = mostHeld (c ∷ bs) (joined b s) in
@@ -130,5 +130,5 @@ module _ (τ : Time) where
       (λ (few : n < 20).
       rw (lt-leb 20 n few, lt-leb 200 k (omega arith), held-after b s, eleven-only (k + 1) (joined b s) c bs (omega arith) f e)
       (ap (λ (t : Bool). met t 11) (max-test (suc n) m few)))
-      (λ (many : 20 ≤ n). rw (le-leb 20 n many, lt-ltb 20 (max (suc n) m) (omega arith)))
+      (λ (many : 20 ≤ n). rw (le-leb 20 n many, lt-ltb 20 (mostHeld (b ∷ c ∷ bs) s) (omega arith)))
       (below-or-not n 20))
