@@ -4,16 +4,16 @@
 --     results-same    their last blocks have the same hydrographs
 --     Fit, fit-all-same    blocks that meet no refusal but perhaps 11: where the one network has only such, so has the other
 use mathlib.Core.Path.{_≡_, refl, sym, ap, _∙_}
-use mathlib.Core.Bool.{Bool, false}
+use mathlib.Core.Bool.{false}
 use mathlib.Core.List.{List, [], _∷_, List·Permᴰ, List·Permᴰ·nil, List·Permᴰ·cons, List·Permᴰ·swap, List·Permᴰ·trans}
-use Prim.Native.Nat.{ℕ, zero, suc, _+_, _≤_}
+use Prim.Native.Nat.{ℕ, _≤_}
 use native.Mathlib.Nat.{add-comm, add-left-comm}
 use Rattle.meaning.specs.Words.{_=?_}
 use Rattle.meaning.specs.Water.{plus}
 use Rattle.meaning.specs.Blocks.{Time, Block, kindNumber, kindOf, Held, both, total, takes, made, broken}
 use Rattle.meaning.specs.Results.{Result}
 use Rattle.meaning.specs.Run.{flowRefusal}
-use Rattle.network.specs.Network.{Nets, none, net, count, makes, hydrographs, resultsOf}
+use Rattle.network.specs.Network.{Nets, none, count, makes, hydrographs, resultsOf}
 use Rattle.network.specs.Pairing.{Same, both-none, paired, swapped, chained, count-same, Each, each-same}
 
 plus-none : (xs : List ℕ) → plus xs [] ≡ xs

@@ -1,5 +1,5 @@
 -- Document 01, the network of a deck: blocks and their branches, and the hydrograph that the network alone defines. No stack is spoken of here.
-use Prim.Native.Nat.{ℕ, zero, suc, _+_}
+use Prim.Native.Nat.{ℕ, zero, suc}
 use mathlib.Core.List.{List, [], _∷_}
 use Rattle.meaning.specs.Blocks.{Time, Block, Held, total, takes, made}
 use Rattle.meaning.specs.Results.{Result}

@@ -1,12 +1,12 @@
 -- Document 01, "Point 3's words": when lines read soundly, when two decks draw the same network, when more than twenty would be waiting, when room is enough.
-use Prim.Native.Nat.{ℕ, zero, suc, _+_, _*_, _≤_, max}
+use Prim.Native.Nat.{ℕ, _+_, _*_, _≤_, max}
 use mathlib.Core.List.{List, [], _∷_, _++_}
 use lib.ListN.{length}
 use Rattle.meaning.specs.Lines.{linesOf}
 use Rattle.meaning.specs.Fields.{Fixed}
 use Rattle.meaning.specs.Blocks.{Time, Block}
 use Rattle.meaning.specs.Run.{Reading, BeforeTime, BeforeBlocks, InBlock, Event, Refuse, Go, Open, End, readLine, Lent}
-use Rattle.network.specs.Network.{Nets, none, net, count, joined, networkOf}
+use Rattle.network.specs.Network.{Nets, none, net, count, joined}
 
 -- SOUND LINES. There is a ZZ and no line up to it meets 3 to 8. What the lines say then is the time control and the blocks; no stack is looked at.
 pub data Said : Type 0 where
