@@ -8,7 +8,8 @@ use Rattle.meaning.specs.Blocks.{Time, Block}
 use Rattle.meaning.specs.Run.{Reading, BeforeTime, BeforeBlocks, InBlock, Event, Refuse, Go, Open, End, readLine, Lent}
 use Rattle.network.specs.Network.{Nets, none, net, count, joined}
 
--- SOUND LINES. There is a ZZ and no line up to it meets 3 to 8. What the lines say then is the time control and the blocks; no stack is looked at.
+-- SOUND LINES: a ZZ is reached, and up to it no line is refused for what it holds or where it stands (3 to 8). Then the lines say a time control and blocks. What is held is
+-- not looked at, so 9 to 15 play no part.
 pub data Said : Type 0 where
   Unsound : Said
   Sound : Time → List Block → Said
@@ -36,8 +37,8 @@ saidFrom (l ∷ ls) r = saidBy (readLine r l) r (λ (next : Reading). saidFrom l
 unfoldable pub said : List ℕ → Said
 said deck = saidFrom (linesOf deck) (BeforeTime Fixed)
 
--- THE SAME NETWORK. Blocks pair off: each block of the one has an equal block among the other's (name, kind, record identifiers and the values under each), and
--- the branches of the two pair off in turn, in some order.
+-- THE SAME NETWORK: for each block of the one there is an equal block in the other (a `Block` is its name and, under each record identifier, its values; the kind
+-- follows), and the branches of the two are paired in the same way. The order in which branches stand is free.
 -- The block b with the branches bs stands among s, and t are the others there.
 pub data Among (b : Block) (bs : Nets) : Nets → Nets → Type 0 where
   here : {s : Nets} → Among b bs (net b bs s) s
@@ -47,7 +48,7 @@ pub data PairOff : Nets → Nets → Type 0 where
   nothing : PairOff none none
   pair : {b : Block} {bs cs s t u : Nets} → Among b cs t u → PairOff bs cs → PairOff s u → PairOff (net b bs s) t
 
--- WAITING. The most hydrographs that are ever held as one block after another closes, found as though any number could be held.
+-- WAITING: the most hydrographs that are ever held as one block after another closes, were there no limit.
 abbrev pub mostHeld : List Block → Nets → ℕ
 mostHeld [] s = 0
 mostHeld (b ∷ bs) s = max (count (joined b s)) (mostHeld bs (joined b s))
@@ -55,7 +56,7 @@ mostHeld (b ∷ bs) s = max (count (joined b s)) (mostHeld bs (joined b s))
 abbrev pub mostWaiting : List Block → ℕ
 mostWaiting bs = mostHeld bs none
 
--- ENOUGH ROOM. Neither 1 nor 17 would be met, for a deck with that time control and those blocks.
+-- ENOUGH ROOM for a deck with that time control and those blocks: nothing that 1 or 17 asks for is missing.
 pub record Enough (τ : Time) (bs : List Block) (named : ℕ) (lent : Lent) : Type 0 where
   pub work : 6_000 ≤ lent .work
   pub ordinates : τ .ordinates ≤ lent .ordinates
