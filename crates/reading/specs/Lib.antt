@@ -1,0 +1,3 @@
+-- Definitions and laws of reading.
+pub mod Trimming
+pub mod Scanning

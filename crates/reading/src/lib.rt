@@ -1,0 +1,1 @@
+// Reading a deck: from its bytes to its blocks.
