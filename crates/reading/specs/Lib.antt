@@ -1,3 +1,6 @@
 -- Definitions and laws of reading.
 pub mod Trimming
 pub mod Scanning
+pub mod ReadOn
+pub mod Limits
+pub mod Within
