@@ -1,0 +1,64 @@
+-- Plain bytes, and what a run of them says of the lines that a deck falls into: they are the front of its first line.
+use Prim.Native.Nat.{ℕ, suc, _≤_, _<_}
+use mathlib.Core.Path.{_≡_, refl, sym, _∙_, ap}
+use mathlib.Core.Bool.{Bool, true, false, _&&_, and-false, true≢false}
+use mathlib.Core.List.{List, [], _∷_, _++_, append-nil}
+use native.Mathlib.Omega.{arith}
+use borrow.Author.Tests.{le-leb, lt-leb, ne-eqb}
+use lib.ListN.{length, take, drop}
+use Rattle.meaning.specs.Words.{_=?_, _≤?_, if_then_else_}
+use Rattle.meaning.specs.Lines.{lf, cr, inFront, linesOf, allPlain}
+use Rattle.sequences.specs.Runs.{run}
+use Rattle.lines.specs.Line.{isPlain}
+
+pub plain-byte : (b : ℕ) → 0x20 ≤ b → b ≤ 0x7E → isPlain b ≡ true
+plain-byte b h k = rw (le-leb 0x20 b h, le-leb b 0x7E k)
+
+pub low-byte : (b : ℕ) → b < 0x20 → isPlain b ≡ false
+low-byte b h = rw (lt-leb 0x20 b h)
+
+pub high-byte : (b : ℕ) → 0x7E < b → isPlain b ≡ false
+high-byte b h = rw (lt-leb b 0x7E h) (and-false (0x20 ≤? b))
+
+-- a plain byte is none of those that end a line
+plain-is-not : (b end : ℕ) → isPlain end ≡ false → isPlain b ≡ true → (b =? end) ≡ false
+plain-is-not b end f t = ne-eqb b end (λ h. true≢false (sym t ∙ ap isPlain h ∙ f))
+
+pub all-plain : (s : List ℕ) → allPlain (take (run isPlain s) s) ≡ true
+unfolding run allPlain if_then_else_
+all-plain [] = refl
+all-plain (b ∷ s) = go (isPlain b) refl (all-plain s)
+  where
+    go : (t : Bool) → isPlain b ≡ t → allPlain (take (run isPlain s) s) ≡ true
+        → allPlain (take (if t then suc (run isPlain s) else 0) (b ∷ s)) ≡ true
+    go true e ih = rw (e, ih)
+    go false e ih = refl
+
+pub not-all-plain : (xs : List ℕ) (b : ℕ) (l : List ℕ) → isPlain b ≡ false → allPlain (xs ++ (b ∷ l)) ≡ false
+unfolding allPlain
+not-all-plain [] b l h = rw h
+not-all-plain (x ∷ xs) b l h = rw (not-all-plain xs b l h) (and-false (isPlain x))
+
+-- bytes in front of the first line
+abbrev pub front : List ℕ → List (List ℕ) → List (List ℕ)
+front [] ls = ls
+front (x ∷ xs) ls = inFront x (front xs ls)
+
+pub front-line : (xs l : List ℕ) (ls : List (List ℕ)) → front xs (l ∷ ls) ≡ (xs ++ l) ∷ ls
+front-line [] l ls = refl
+front-line (x ∷ xs) l ls = rw (front-line xs l ls)
+
+pub front-none : (xs : List ℕ) → 0 < length xs → front xs [] ≡ xs ∷ []
+front-none [] h = absurd (let z : 0 < 0 = h in omega arith)
+front-none (x ∷ []) h = refl
+front-none (x ∷ y ∷ xs) h = rw (front-none (y ∷ xs) (omega arith))
+
+pub lines-run : (s : List ℕ) → linesOf s ≡ front (take (run isPlain s) s) (linesOf (drop (run isPlain s) s))
+unfolding run linesOf if_then_else_
+lines-run [] = refl
+lines-run (b ∷ s) = go (isPlain b) refl (lines-run s)
+  where
+    go : (t : Bool) → isPlain b ≡ t → linesOf s ≡ front (take (run isPlain s) s) (linesOf (drop (run isPlain s) s))
+        → linesOf (b ∷ s) ≡ front (take (if t then suc (run isPlain s) else 0) (b ∷ s)) (linesOf (drop (if t then suc (run isPlain s) else 0) (b ∷ s)))
+    go true e ih = rw (plain-is-not b lf refl e, plain-is-not b cr refl e) (ap (inFront b) ih)
+    go false e ih = refl

@@ -1,0 +1,63 @@
+-- A run: the elements at the front of a list that pass a test. A loop that looks for a run's end keeps `at + run (drop at s) ≡ i + run (drop i s)`.
+--     run test s       how many they are
+--     run-more         a turn of such a loop
+--     run-stop         where it stops, at an element that fails the test, or at the end
+--     run-stops        what stands behind a run fails the test
+use mathlib.Core.Path.{_≡_, refl, sym, _∙_}
+use mathlib.Core.Bool.{Bool, true, false}
+use mathlib.Core.List.{List, [], _∷_}
+use Prim.Native.Nat.{ℕ, zero, suc, _+_, _≤_, _<_}
+use native.Mathlib.Numerals.{add-one}
+use native.Mathlib.Omega.{arith}
+use lib.ListN.{length, drop, getD, drop-of-length-le, length-drop}
+use lib.Seq.{drop-cons, getD-drop}
+use Rattle.meaning.specs.Words.{if_then_else_}
+
+unfoldable pub run : (ℕ → Bool) → List ℕ → ℕ
+run test [] = 0
+run test (b ∷ s) = if test b then suc (run test s) else 0
+
+module _ (test : ℕ → Bool) where
+  pub run-more : (s : List ℕ) (i : ℕ) → i < length s → test (getD s i 0) ≡ true → run test (drop i s) ≡ suc (run test (drop (i + 1) s))
+  unfolding run if_then_else_
+  run-more s i h t = rw (add-one, drop-cons s i 0 h, t)
+
+  pub run-stop : (s : List ℕ) (i : ℕ) → i < length s → test (getD s i 0) ≡ false → run test (drop i s) ≡ 0
+  unfolding run if_then_else_
+  run-stop s i h t = rw (drop-cons s i 0 h, t)
+
+  pub run-end : (s : List ℕ) (i : ℕ) → length s ≤ i → run test (drop i s) ≡ 0
+  unfolding run
+  run-end s i h = rw (drop-of-length-le s h)
+
+  pub run-within : (s : List ℕ) → run test s ≤ length s
+  unfolding run if_then_else_
+  run-within [] = omega arith
+  run-within (b ∷ s) = go (test b) (run-within s)
+    where
+      go : (t : Bool) → run test s ≤ length s → (if t then suc (run test s) else 0) ≤ suc (length s)
+      go true ih = omega arith
+      go false ih = omega arith
+
+  pub run-stops : (s : List ℕ) → run test s < length s → test (getD s (run test s) 0) ≡ false
+  unfolding run if_then_else_
+  run-stops [] h = absurd (none h)
+    where
+      none : 0 < 0 → ⊥
+      none h = omega arith
+  run-stops (b ∷ s) h = go (test b) refl h (run-stops s)
+    where
+      go : (t : Bool) → test b ≡ t → (if t then suc (run test s) else 0) < suc (length s)
+          → (run test s < length s → test (getD s (run test s) 0) ≡ false) → test (getD (b ∷ s) (if t then suc (run test s) else 0) 0) ≡ false
+      go true e k ih = ih (omega arith)
+      go false e k ih = e
+
+  -- the same of a run that begins at a place
+  module _ (s : List ℕ) (at : ℕ) where
+    pub run-at-within : at ≤ length s → at + run test (drop at s) ≤ length s
+    run-at-within h = omega (arith, run-within (drop at s), length-drop at s)
+
+    pub run-at-stops : at + run test (drop at s) < length s → test (getD s (at + run test (drop at s)) 0) ≡ false
+    run-at-stops h =
+        let inside : run test (drop at s) < length (drop at s) = simp length-drop (omega arith) in
+        rw getD-drop at (run-stops (drop at s) inside)
