@@ -15,10 +15,10 @@ use Rattle.meaning.specs.Words.{_=?_, _≤?_, _<?_, if_then_else_}
 use Rattle.meaning.specs.Lines.{lf, cr, inFront, linesOf, allPlain, foreign}
 use Rattle.sequences.specs.Choices.{below-or-not, both-hold}
 use Rattle.sequences.specs.Parts.{part}
-use Rattle.sequences.specs.Runs.{run, run-within, run-stop, run-at-within, run-at-stops}
+use Rattle.sequences.specs.Runs.{run, every, run-within, run-at-within, run-at-stops, every-run, not-every}
 use Rattle.lines.specs.declared.Line.{Line}
 use Rattle.lines.specs.Line.{isPlain, fairLine, unfairLine, lineEnding, lineFrom, lineAt}
-use Rattle.lines.specs.Plain.{all-plain, not-all-plain, front, front-line, front-none, lines-run}
+use Rattle.lines.specs.Plain.{plain-every, front, front-line, front-none, lines-run}
 
 -- A line that passes refusal 3 stands from `at` to `end`, and the next one starts at `next`.
 pub record FairAt (s : List ℕ) (at end next : ℕ) : Type 0 where
@@ -90,7 +90,7 @@ module _ (s : List ℕ) (at : ℕ) (inside : at < length s) where
     sound-plains =
         let e : end - at ≡ run isPlain (drop at s) = omega arith in
         let f : length plains ≤ 80 = omega (arith, plains-length) in
-        rw (e, le-ltb 80 (length plains) f, all-plain (drop at s))
+        rw (e, le-ltb 80 (length plains) f, plain-every, every-run isPlain (drop at s))
 
     -- the line's end takes no byte of it
     fair-before : (next : ℕ) → at < next → next ≤ length s → linesOf (drop end s) ≡ [] ∷ linesOf (drop next s) → FairAt s at end next
@@ -139,7 +139,7 @@ module _ (s : List ℕ) (at : ℕ) (inside : at < length s) where
         line = plains ++ (getD s end 0 ∷ b .more);
         rest = b .rest;
         lines = lines-from ∙ ap (front plains) (lines-at-other s end more h k ∙ b .lines) ∙ front-line plains _ _;
-        met = rw (not-all-plain plains (getD s end 0) (b .more) (run-at-stops isPlain s at more))
+        met = rw (plain-every, not-every isPlain plains (getD s end 0) (b .more) (run-at-stops isPlain s at more))
             (or-true (80 <? length (plains ++ (getD s end 0 ∷ b .more))));
       }
 

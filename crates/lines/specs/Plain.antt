@@ -8,7 +8,7 @@ use borrow.Author.Tests.{le-leb, lt-leb, ne-eqb}
 use lib.ListN.{length, take, drop}
 use Rattle.meaning.specs.Words.{_=?_, _≤?_, if_then_else_}
 use Rattle.meaning.specs.Lines.{lf, cr, inFront, linesOf, allPlain}
-use Rattle.sequences.specs.Runs.{run}
+use Rattle.sequences.specs.Runs.{run, every}
 use Rattle.lines.specs.Line.{isPlain}
 
 pub plain-byte : (b : ℕ) → 0x20 ≤ b → b ≤ 0x7E → isPlain b ≡ true
@@ -24,20 +24,10 @@ high-byte b h = rw (lt-leb b 0x7E h) (and-false (0x20 ≤? b))
 plain-is-not : (b end : ℕ) → isPlain end ≡ false → isPlain b ≡ true → (b =? end) ≡ false
 plain-is-not b end f t = ne-eqb b end (λ h. true≢false (sym t ∙ ap isPlain h ∙ f))
 
-pub all-plain : (s : List ℕ) → allPlain (take (run isPlain s) s) ≡ true
-unfolding run allPlain if_then_else_
-all-plain [] = refl
-all-plain (b ∷ s) = go (isPlain b) refl (all-plain s)
-  where
-    go : (t : Bool) → isPlain b ≡ t → allPlain (take (run isPlain s) s) ≡ true
-        → allPlain (take (if t then suc (run isPlain s) else 0) (b ∷ s)) ≡ true
-    go true e ih = rw (e, ih)
-    go false e ih = refl
-
-pub not-all-plain : (xs : List ℕ) (b : ℕ) (l : List ℕ) → isPlain b ≡ false → allPlain (xs ++ (b ∷ l)) ≡ false
-unfolding allPlain
-not-all-plain [] b l h = rw h
-not-all-plain (x ∷ xs) b l h = rw (not-all-plain xs b l h) (and-false (isPlain x))
+pub plain-every : (l : List ℕ) → allPlain l ≡ every isPlain l
+unfolding allPlain every
+plain-every [] = refl
+plain-every (b ∷ l) = ap (λ (t : Bool). isPlain b && t) (plain-every l)
 
 -- bytes in front of the first line
 abbrev pub front : List ℕ → List (List ℕ) → List (List ℕ)

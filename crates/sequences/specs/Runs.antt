@@ -3,19 +3,24 @@
 --     run-more         a turn of such a loop
 --     run-stop         where it stops, at an element that fails the test, or at the end
 --     run-stops        what stands behind a run fails the test
+--     every test s     all elements pass the test
 use mathlib.Core.Path.{_≡_, refl, sym, _∙_}
-use mathlib.Core.Bool.{Bool, true, false}
-use mathlib.Core.List.{List, [], _∷_}
+use mathlib.Core.Bool.{Bool, true, false, _&&_, and-false}
+use mathlib.Core.List.{List, [], _∷_, _++_}
 use Prim.Native.Nat.{ℕ, zero, suc, _+_, _≤_, _<_}
 use native.Mathlib.Numerals.{add-one}
 use native.Mathlib.Omega.{arith}
-use lib.ListN.{length, drop, getD, drop-of-length-le, length-drop}
+use lib.ListN.{length, take, drop, getD, drop-of-length-le, length-drop}
 use lib.Seq.{drop-cons, getD-drop}
 use Rattle.meaning.specs.Words.{if_then_else_}
 
 unfoldable pub run : (ℕ → Bool) → List ℕ → ℕ
 run test [] = 0
 run test (b ∷ s) = if test b then suc (run test s) else 0
+
+unfoldable pub every : (ℕ → Bool) → List ℕ → Bool
+every test [] = true
+every test (b ∷ s) = test b && every test s
 
 module _ (test : ℕ → Bool) where
   pub run-more : (s : List ℕ) (i : ℕ) → i < length s → test (getD s i 0) ≡ true → run test (drop i s) ≡ suc (run test (drop (i + 1) s))
@@ -61,3 +66,18 @@ module _ (test : ℕ → Bool) where
     run-at-stops h =
         let inside : run test (drop at s) < length (drop at s) = simp length-drop (omega arith) in
         rw getD-drop at (run-stops (drop at s) inside)
+
+  -- a run passes the test, and is all of a list that passes it
+  pub every-run : (s : List ℕ) → every test (take (run test s) s) ≡ true
+  unfolding run every if_then_else_
+  every-run [] = refl
+  every-run (b ∷ s) = go (test b) refl (every-run s)
+    where
+      go : (t : Bool) → test b ≡ t → every test (take (run test s) s) ≡ true → every test (take (if t then suc (run test s) else 0) (b ∷ s)) ≡ true
+      go true e ih = rw (e, ih)
+      go false e ih = refl
+
+  pub not-every : (xs : List ℕ) (b : ℕ) (ys : List ℕ) → test b ≡ false → every test (xs ++ (b ∷ ys)) ≡ false
+  unfolding every
+  not-every [] b ys h = rw h
+  not-every (x ∷ xs) b ys h = rw (not-every xs b ys h) (and-false (test x))
