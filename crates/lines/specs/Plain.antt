@@ -1,28 +1,14 @@
 -- Plain bytes, and what a run of them says of the lines that a deck falls into: they are the front of its first line.
-use Prim.Native.Nat.{ℕ, suc, _≤_, _<_}
-use mathlib.Core.Path.{_≡_, refl, sym, _∙_, ap}
-use mathlib.Core.Bool.{Bool, true, false, _&&_, and-false, true≢false}
-use mathlib.Core.List.{List, [], _∷_, _++_, append-nil}
+use Prim.Native.Nat.{ℕ, suc, _<_}
+use mathlib.Core.Path.{_≡_, refl, ap}
+use mathlib.Core.Bool.{Bool, true, false, _&&_}
+use mathlib.Core.List.{List, [], _∷_, _++_}
 use native.Mathlib.Omega.{arith}
-use borrow.Author.Tests.{le-leb, lt-leb, ne-eqb}
 use lib.ListN.{length, take, drop}
-use Rattle.meaning.specs.Words.{_=?_, _≤?_, if_then_else_}
+use Rattle.meaning.specs.Words.{if_then_else_}
 use Rattle.meaning.specs.Lines.{lf, cr, inFront, linesOf, allPlain}
-use Rattle.sequences.specs.Runs.{run, every}
+use Rattle.sequences.specs.Runs.{run, every, test-tells}
 use Rattle.lines.specs.Line.{isPlain}
-
-pub plain-byte : (b : ℕ) → 0x20 ≤ b → b ≤ 0x7E → isPlain b ≡ true
-plain-byte b h k = rw (le-leb 0x20 b h, le-leb b 0x7E k)
-
-pub low-byte : (b : ℕ) → b < 0x20 → isPlain b ≡ false
-low-byte b h = rw (lt-leb 0x20 b h)
-
-pub high-byte : (b : ℕ) → 0x7E < b → isPlain b ≡ false
-high-byte b h = rw (lt-leb b 0x7E h) (and-false (0x20 ≤? b))
-
--- a plain byte is none of those that end a line
-plain-is-not : (b end : ℕ) → isPlain end ≡ false → isPlain b ≡ true → (b =? end) ≡ false
-plain-is-not b end f t = ne-eqb b end (λ h. true≢false (sym t ∙ ap isPlain h ∙ f))
 
 pub plain-every : (l : List ℕ) → allPlain l ≡ every isPlain l
 unfolding allPlain every
@@ -50,5 +36,5 @@ lines-run (b ∷ s) = go (isPlain b) refl (lines-run s)
   where
     go : (t : Bool) → isPlain b ≡ t → linesOf s ≡ front (take (run isPlain s) s) (linesOf (drop (run isPlain s) s))
         → linesOf (b ∷ s) ≡ front (take (if t then suc (run isPlain s) else 0) (b ∷ s)) (linesOf (drop (if t then suc (run isPlain s) else 0) (b ∷ s)))
-    go true e ih = rw (plain-is-not b lf refl e, plain-is-not b cr refl e) (ap (inFront b) ih)
+    go true e ih = rw (test-tells isPlain b lf e refl, test-tells isPlain b cr e refl) (ap (inFront b) ih)
     go false e ih = refl

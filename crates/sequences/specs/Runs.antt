@@ -4,15 +4,17 @@
 --     run-stop         where it stops, at an element that fails the test, or at the end
 --     run-stops        what stands behind a run fails the test
 --     every test s     all elements pass the test
-use mathlib.Core.Path.{_≡_, refl, sym, _∙_}
-use mathlib.Core.Bool.{Bool, true, false, _&&_, and-false}
+use mathlib.Core.Path.{_≡_, refl, sym, _∙_, ap}
+use mathlib.Core.Bool.{Bool, true, false, _&&_, and-false, true≢false}
 use mathlib.Core.List.{List, [], _∷_, _++_}
 use Prim.Native.Nat.{ℕ, zero, suc, _+_, _≤_, _<_}
 use native.Mathlib.Numerals.{add-one}
 use native.Mathlib.Omega.{arith}
+use borrow.Author.Tests.{ne-eqb}
 use lib.ListN.{length, take, drop, getD, drop-of-length-le, length-drop}
 use lib.Seq.{drop-cons, getD-drop}
-use Rattle.meaning.specs.Words.{if_then_else_}
+use Rattle.sequences.specs.Choices.{both-hold}
+use Rattle.meaning.specs.Words.{_=?_, if_then_else_}
 
 unfoldable pub run : (ℕ → Bool) → List ℕ → ℕ
 run test [] = 0
@@ -81,3 +83,14 @@ module _ (test : ℕ → Bool) where
   unfolding every
   not-every [] b ys h = rw h
   not-every (x ∷ xs) b ys h = rw (not-every xs b ys h) (and-false (test x))
+
+  pub every-append : (xs ys : List ℕ) → every test xs ≡ true → every test ys ≡ true → every test (xs ++ ys) ≡ true
+  unfolding every
+  every-append [] ys h k = k
+  every-append (x ∷ xs) ys h k =
+      let both = both-hold (test x) (every test xs) h in
+      rw (both .0, every-append xs ys (both .1) k)
+
+  -- one element passes the test and another does not: they differ
+  pub test-tells : (a b : ℕ) → test a ≡ true → test b ≡ false → (a =? b) ≡ false
+  test-tells a b t f = ne-eqb a b (λ h. true≢false (sym t ∙ ap test h ∙ f))

@@ -4,10 +4,9 @@ use mathlib.Core.Path.{_≡_}
 use native.Mathlib.Omega.{arith}
 use lib.ListN.{length, drop}
 use borrow.Author.Needs.{needs}
-use Rattle.sequences.specs.Choices.{tests}
+use Rattle.sequences.specs.Choices.{in-range, below-range, above-range}
 use Rattle.sequences.specs.Runs.{run, run-more, run-stop, run-end}
 use Rattle.lines.specs.Line.{isPlain}
-use Rattle.lines.specs.Plain.{plain-byte, low-byte, high-byte}
 use Rattle.lines.proofs.plain_end.Statement.{statement}
 use Rattle.lines.proofs.plain_end.Tie as tie
 
@@ -25,11 +24,11 @@ shared-slice-read-b c = search needs
 
 returns : tie.Need-returns Inv-loop μ-loop
 returns c =
-    omega (arith, run-stop isPlain (c .before .before .before .before .args .s .now) (c .before .before .before .loop .i) (search needs) (low-byte _ (c .if1 .taken)))
+    omega (arith, run-stop isPlain (c .before .before .before .before .args .s .now) (c .before .before .before .loop .i) (search needs) (below-range 0x20 0x7E _ (c .if1 .taken)))
 
 returns-2 : tie.Need-returns-2 Inv-loop μ-loop
 returns-2 c =
-    omega (arith, run-stop isPlain (c .before .before .before .before .before .args .s .now) (c .before .before .before .before .loop .i) (search needs) (high-byte _ (c .if2 .taken)))
+    omega (arith, run-stop isPlain (c .before .before .before .before .before .args .s .now) (c .before .before .before .before .loop .i) (search needs) (above-range 0x20 0x7E _ (c .if2 .taken)))
 
 add-i : tie.Need-add-i Inv-loop μ-loop
 add-i c = search needs
@@ -39,7 +38,7 @@ loop-less c = search needs
 
 loop-again : tie.Need-loop-again Inv-loop μ-loop
 loop-again c =
-    omega (arith, run-more isPlain (c .before .before .before .before .before .args .s .now) (c .before .before .before .before .loop .i) (search needs) (plain-byte _ (c .before .if1 .left) (c .if2 .left)))
+    omega (arith, run-more isPlain (c .before .before .before .before .before .args .s .now) (c .before .before .before .before .loop .i) (search needs) (in-range 0x20 0x7E _ (c .before .if1 .left) (c .if2 .left)))
 
 returns-3 : tie.Need-returns-3 Inv-loop μ-loop
 returns-3 c = omega (arith, run-end isPlain (c .before .before .args .s .now) (c .before .loop .i) (search needs))
