@@ -1,6 +1,7 @@
 -- Definitions and laws of reading.
 pub mod Trimming
 pub mod Scanning
+pub mod Scans
 pub mod ReadOn
 pub mod Limits
 pub mod Within

@@ -1,8 +1,10 @@
 // The table of records: which fields a record has, and what each may hold (document 01, 'From bytes to fields').
 ghost use mathlib.Core.Path.{_≡_};
-ghost use Rattle.meaning.specs.Records.{ruleAt, Limited};
-ghost use Rattle.rules.specs.Tables.{rulesBy, ruleBy, namedBy};
+ghost use Rattle.meaning.specs.Records.{ruleAt, Limited, isMalformed, isOutside, unitsOf, faultyField, outsideField, valueOf};
+ghost use Rattle.numbers.specs.Reading.{valueIs};
+ghost use Rattle.rules.specs.Tables.{rulesBy, ruleBy, namedBy, FieldIs, FewPlaces};
 ghost use lib.ListN.{replicate};
+use numbers::Value;
 
 // A record whose fields are read.
 pub enum Table {
@@ -21,6 +23,12 @@ pub enum Rule {
     Unnamed,
     NotRead,
     Limited(u64, u64, u64),
+}
+
+// What a field holds by its rule: a fault (refusal 6), or a value and whether it is outside its limits (refusal 7).
+pub enum Field {
+    Faulty,
+    Value(u64, bool),
 }
 
 fn time_rule(k: usize) -> Rule
@@ -68,7 +76,7 @@ fn one_rule(k: usize, fields: usize, places: u64, low: u64, high: u64) -> Rule
 }
 
 // The rule of field `k`, counted from 0.
-pub fn rule_at(t: Table, k: usize) -> Rule
+fn rule_at(t: Table, k: usize) -> Rule
     ensures { λ r. ⌜ ruleBy r ≡ ruleAt (rulesBy t) k ⌝ }
 {
     match t {
@@ -97,4 +105,44 @@ pub fn named_fields(t: Table) -> usize
         Table::Joins => 1,
         Table::Reach => 3,
     }
+}
+
+// A value, by the limits of its field.
+fn limit_value(v: Value, low: u64, high: u64) -> Field
+    ensures { λ r. ⌜ FieldIs r (isMalformed (valueIs v)) (isOutside low high (valueIs v)) (unitsOf (valueIs v)) ⌝ }
+{
+    match v {
+        Value::Malformed => Field::Faulty,
+        Value::Negative => Field::Value(0, true),
+        Value::Units(u) => {
+            if u < low {
+                return Field::Value(u, true);
+            }
+            Field::Value(u, high < u)
+        }
+    }
+}
+
+// A field, by its rule.
+fn read_field(r: Rule, f: &[u8]) -> Field
+    requires { ⌜ FewPlaces (ruleBy r) ⌝ }
+    ensures { λ x. ⌜ FieldIs x (faultyField (ruleBy r) (now (f .entry))) (outsideField (ruleBy r) (now (f .entry))) (valueOf (ruleBy r) (now (f .entry))) ⌝ }
+{
+    match r {
+        Rule::Unnamed => {
+            if 0 < f.len() {
+                return Field::Faulty;
+            }
+            Field::Value(0, false)
+        }
+        Rule::NotRead => Field::Value(0, false),
+        Rule::Limited(places, low, high) => limit_value(numbers::read_value(f, places), low, high),
+    }
+}
+
+// Field `k` of a record, counted from 0.
+pub fn field_at(t: Table, k: usize, f: &[u8]) -> Field
+    ensures { λ x. ⌜ FieldIs x (faultyField (ruleAt (rulesBy t) k) (now (f .entry))) (outsideField (ruleAt (rulesBy t) k) (now (f .entry))) (valueOf (ruleAt (rulesBy t) k) (now (f .entry))) ⌝ }
+{
+    read_field(rule_at(t, k), f)
 }
