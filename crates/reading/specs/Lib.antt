@@ -2,6 +2,7 @@
 pub mod Trimming
 pub mod Scanning
 pub mod Scans
+pub mod Fielding
 pub mod ReadOn
 pub mod Limits
 pub mod Within

@@ -112,3 +112,10 @@ pub scan-length : (rules : List Rule) (k : ℕ) (fs : List (List ℕ)) (s : Scan
 unfolding scanFrom
 scan-length rules k [] s = refl
 scan-length rules k (f ∷ fs) s = scan-length rules (k + 1) fs (noted rules k f s) ∙ kept-length k (valueOf (ruleAt rules k) f) (s .values)
+
+-- from the first field on
+pub scan-first : (rules : List Rule) (us vs : List (List ℕ)) (s : Scanned) → length us ≤ 10 → length (s .values) ≡ 10
+    → take (length us) (scanFrom rules 0 (us ++ vs) s .values) ≡ valuesFrom rules 0 us
+scan-first rules us vs s h e =
+    let z : 0 + length us ≡ length us = omega arith in
+    rw z at (scan-values rules 0 us vs s (omega arith) e)

@@ -71,6 +71,10 @@ unfolding anyOutside
 outside-split rules m inside k [] n h = outside-blanks rules m inside k n (omega arith)
 outside-split rules m inside k (t ∷ ts) n h = rw (outside-split rules m inside (k + 1) ts n (omega arith))
 
+-- a blank field is inside limits that begin at 0
+pub blank-outside : (places high : ℕ) → outsideField (Limited places 0 high) [] ≡ false
+blank-outside places high = rw (blank-value places, le-ltb high 0 zero-le)
+
 -- past the last rule a field is unnamed, and a blank one is inside
 pub named-inside : (rules : List Rule) → BlankInside rules (length rules)
 named-inside rules k h = rw (List·getD-eq-default rules Unnamed h)
