@@ -6,6 +6,7 @@ use mathlib.Core.List.{List, [], _∷_}
 use native.Mathlib.Omega.{arith}
 use lib.ListN.{length, getD}
 use Rattle.sequences.specs.Bounds.{AllUpTo}
+use Rattle.sequences.specs.ListBounds.{bound-listFrom}
 use Rattle.sequences.specs.Sums.{filledFrom, filled-list, length-listFrom}
 use Rattle.meaning.specs.Words.{if_then_else_}
 use Rattle.meaning.specs.Water.{tenThousandth, listFrom, rainOf, lossOf, excessAfter, excessOf}
@@ -31,11 +32,6 @@ after-within initial uniform before most (rain ∷ rains) f (suc k) = after-with
 abbrev pub depthOf : List ℕ → ℕ → ℕ
 depthOf rains i = getD rains i 0 * tenThousandth
 
-list-within : (f : ℕ → ℕ) (most i n : ℕ) → ((j : ℕ) → f j ≤ most) → AllUpTo most (listFrom f i n)
-list-within f most i zero h k = omega arith
-list-within f most i (suc n) h zero = h i
-list-within f most i (suc n) h (suc k) = list-within f most (i + 1) n h k
-
 -- the storm of a block
 module _ (initial uniform : ℕ) (rains : List ℕ) (intervals : ℕ) where
   pub length-excess : length (excessOf initial uniform (rainOf rains intervals)) ≡ intervals
@@ -46,7 +42,7 @@ module _ (initial uniform : ℕ) (rains : List ℕ) (intervals : ℕ) where
   unfolding rainOf
   excess-within h =
       after-within initial uniform 0 12_000_000 (rainOf rains intervals)
-      (list-within (depthOf rains) 12_000_000 0 intervals (λ (j : ℕ). omega (arith, h j)))
+      (bound-listFrom 12_000_000 (depthOf rains) 0 intervals (λ (j : ℕ). omega (arith, h j)))
 
 -- the work of a loop over the intervals, before its first turn
 pub excess-filled : (initial uniform : ℕ) (rains room : List ℕ)

@@ -5,3 +5,5 @@ pub mod Overwriting
 pub mod Bounds
 pub mod Sums
 pub mod Zeros
+pub mod ListBounds
+pub mod Filling

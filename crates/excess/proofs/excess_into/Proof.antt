@@ -44,9 +44,7 @@ loss-of-requires : tie.Need-loss-of-requires Inv-loop μ-loop
 loss-of-requires c κs = tt
 
 sub-excess : tie.Need-sub-excess Inv-loop μ-loop
-sub-excess c =
-    let x = c .before .before .before .before .before .before .before .before .before .args in
-    omega (arith, c .before .before .loss-of .ensures, loss-within (x .initial .0) (x .uniform .0) (c .before .before .before .before .before .before .loop .total + c .before .before .before .before .rain-at .result .0) (c .before .before .before .before .rain-at .result .0))
+sub-excess c = rw (c .before .before .loss-of .ensures) (loss-within _ _ _ _)
 
 mul-excess : tie.Need-mul-excess Inv-loop μ-loop
 mul-excess c = omega arith
