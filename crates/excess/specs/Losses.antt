@@ -9,7 +9,7 @@ use Rattle.sequences.specs.Bounds.{AllUpTo}
 use Rattle.sequences.specs.ListBounds.{bound-listFrom}
 use Rattle.sequences.specs.Sums.{filledFrom, filled-list, length-listFrom}
 use Rattle.meaning.specs.Words.{if_then_else_}
-use Rattle.meaning.specs.Water.{tenThousandth, listFrom, rainOf, lossOf, excessAfter, excessOf}
+use Rattle.meaning.specs.Water.{tenThousandth, rainOf, lossOf, excessAfter, excessOf}
 
 by-test : (t : Bool) (rain uniform : ℕ) → (if t then rain else min rain uniform) ≤ rain
 unfolding if_then_else_

@@ -1,12 +1,12 @@
 -- An ordinate of the runoff as the code sums it: no unit ordinate past the last brings anything, and each share fits a word.
-use Prim.Native.Nat.{ℕ, _+_, _-_, _*_, _≤_, min}
+use Prim.Native.Nat.{ℕ, _+_, _-_, _≤_, min}
 use mathlib.Core.Path.{_≡_, sym}
 use mathlib.Core.List.{List}
 use native.Mathlib.Nat.{mul-le-mul, zero-mul}
 use native.Mathlib.Omega.{arith}
 use lib.ListN.{length, getD, List·getD-eq-default}
 use Rattle.sequences.specs.Bounds.{AllUpTo}
-use Rattle.sequences.specs.Sums.{sumTo-past, sumTo-bound}
+use Rattle.sequences.specs.Sums.{sumTo-past}
 use Rattle.meaning.specs.Water.{sumTo, share, ordinate}
 
 module _ (units excess : List ℕ) where

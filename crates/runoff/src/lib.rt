@@ -1,10 +1,10 @@
 // Runoff of a storm, by the unit hydrograph of its basin, and inflow as listed.
 ghost use mathlib.Core.Path.{_≡_};
 ghost use Prim.Native.Nat.{_+_, _*_, _≤_, _<_, min};
-ghost use lib.ListN.{length, getD};
+ghost use lib.ListN.{length};
 ghost use Rattle.sequences.specs.Bounds.{AllUpTo};
-ghost use Rattle.meaning.specs.Water.{hundredth, rainOf, excessOf, ordinate, runoffOf, inflowOf};
-ghost use Rattle.runoff.specs.Storm.{Storm};
+ghost use Rattle.meaning.specs.Water.{ordinate, runoffOf, inflowOf};
+ghost use Rattle.runoff.specs.Storm.{Storm, stormRunoff};
 use units::Depth;
 use units::Flow;
 
@@ -69,7 +69,7 @@ fn spread_into(q: &mut [u64], units: &[u64], excess: &[u64])
 // The runoff hydrograph of a storm, from the unit ordinates and the rains as listed and the losses.
 pub fn runoff_into(q: &mut [u64], units: &[u64], rains: &[u64], initial: Depth, uniform: Depth)
     requires { ⌜ Storm (now units) (now rains) (length (now q)) ⌝ }
-    ensures { λ _. ⌜ now (q .exit) ≡ runoffOf (now (units .entry)) (excessOf (initial .0) (uniform .0) (rainOf (now (rains .entry)) (length (now (q .entry))))) (length (now (q .entry))) ⌝ }
+    ensures { λ _. ⌜ now (q .exit) ≡ stormRunoff (now (units .entry)) (now (rains .entry)) (initial .0) (uniform .0) (length (now (q .entry))) ⌝ }
 {
     let n = q.len();
     let mut room = [0u64; 300];

@@ -1,10 +1,10 @@
 -- `runoff::runoff_into` meets its contract: what is lent to `spread_into` is the excess of all the intervals, whatever stands in the room behind it.
-use Prim.Native.Nat.{ℕ, _≤_, _+_, _-_}
+use Prim.Native.Nat.{ℕ, _≤_, _-_}
 use mathlib.Core.Path.{_≡_, sym, ap, _∙_}
 use mathlib.Core.List.{List}
 use native.Mathlib.Omega.{arith}
 use borrow.Author.Needs.{needs}
-use lib.ListN.{length, replicate, length-replicate}
+use lib.ListN.{length, replicate}
 use Rattle.sequences.specs.Parts.{part, put, length-part, length-put, part-put}
 use Rattle.meaning.specs.Water.{rainOf, excessOf, runoffOf}
 use Rattle.excess.specs.Losses.{length-excess, excess-within}
