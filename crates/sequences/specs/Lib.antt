@@ -5,4 +5,9 @@ pub mod Overwriting
 pub mod Bounds
 pub mod Sums
 pub mod Zeros
+<<<<<<< HEAD
 pub mod Runs
+=======
+pub mod ListBounds
+pub mod Filling
+>>>>>>> a6e49c709e34644e540f53df9ec27723f2114406
