@@ -5,3 +5,4 @@ pub mod Overwriting
 pub mod Bounds
 pub mod Sums
 pub mod Zeros
+pub mod Outcomes
