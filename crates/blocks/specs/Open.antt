@@ -29,16 +29,16 @@ blockOf o rain units flow =
       rm = cardBy (o .rm) (o .steps ∷ o .travel ∷ o .weight ∷ []);
     }
 
--- the record is there
-abbrev pub givenIn : Open → Table → Bool
-givenIn o Table.Time = false
-givenIn o Area = o .ba
-givenIn o Rain = o .pi
-givenIn o Loss = o .lu
-givenIn o Units = o .ui
-givenIn o Flow = o .qi
-givenIn o Joins = o .hc
-givenIn o Reach = o .rm
+-- a record of single values that is there already
+abbrev pub repeatedIn : Open → Table → Bool
+repeatedIn o Table.Time = false
+repeatedIn o Area = o .ba
+repeatedIn o Rain = false
+repeatedIn o Loss = o .lu
+repeatedIn o Units = false
+repeatedIn o Flow = false
+repeatedIn o Joins = o .hc
+repeatedIn o Reach = o .rm
 
 -- Counts within the lists, and none of a record that is not there.
 pub record Counts (letters rains units flows : ℕ) (pi ui qi : Bool) (nq rain-room unit-room flow-room : ℕ) : Type 0 where
@@ -76,16 +76,16 @@ spanBy Flow count = count
 spanBy Joins count = 1
 spanBy Reach count = 3
 
--- What is asked of a line's values: no second record of single values, and LU's third value 0.
-abbrev pub MayTake : Open → Table → List ℕ → Type 0
-MayTake o Table.Time values = Unit
-MayTake o Area values = o .ba ≡ false
-MayTake o Rain values = Unit
-MayTake o Loss values = (o .lu ≡ false) × (getD values 2 0 ≡ 0)
-MayTake o Units values = Unit
-MayTake o Flow values = Unit
-MayTake o Joins values = o .hc ≡ false
-MayTake o Reach values = o .rm ≡ false
+-- LU's third value is 0.
+abbrev pub ThirdZero : Table → List ℕ → Type 0
+ThirdZero Table.Time values = Unit
+ThirdZero Area values = Unit
+ThirdZero Rain values = Unit
+ThirdZero Loss values = getD values 2 0 ≡ 0
+ThirdZero Units values = Unit
+ThirdZero Flow values = Unit
+ThirdZero Joins values = Unit
+ThirdZero Reach values = Unit
 
 abbrev pub Taken : Table → ℕ → List ℕ → Open → Stored → (rain units flow rain′ units′ flow′ : List ℕ) → Type 0
 Taken Table.Time nq vs o r rain units flow rain′ units′ flow′ = (r .refusal ≡ 0) × (r .open ≡ o) × (rain′ ≡ rain) × (units′ ≡ units) × (flow′ ≡ flow)

@@ -9,7 +9,7 @@ ghost use lib.Seq.{paste};
 ghost use Rattle.meaning.specs.Records.{BA, PI, LU, UI, QI, HC, RM};
 ghost use Rattle.meaning.specs.Blocks.{kindOf};
 ghost use Rattle.blocks.specs.Kinds.{bitOf, kindMeant};
-ghost use Rattle.blocks.specs.Open.{blockOf, givenIn, Kept, TakesList, MayTake, Taken, spanBy};
+ghost use Rattle.blocks.specs.Open.{blockOf, repeatedIn, Kept, TakesList, ThirdZero, Taken, spanBy};
 ghost use Rattle.meaning.specs.Words.{_<?_, if_then_else_};
 use rules::Table;
 
@@ -200,17 +200,17 @@ fn take_reach(o: Open, values: &[u64]) -> Stored
     }
 }
 
-// Whether the record is there already.
-pub fn is_given(o: Open, t: Table) -> bool
-    ensures { λ r. ⌜ r ≡ givenIn o t ⌝ }
+// Whether the record is one of single values that is there already.
+pub fn is_repeated(o: Open, t: Table) -> bool
+    ensures { λ r. ⌜ r ≡ repeatedIn o t ⌝ }
 {
     match t {
         Table::Time => false,
         Table::Area => o.ba,
-        Table::Rain => o.pi,
+        Table::Rain => false,
         Table::Loss => o.lu,
-        Table::Units => o.ui,
-        Table::Flow => o.qi,
+        Table::Units => false,
+        Table::Flow => false,
         Table::Joins => o.hc,
         Table::Reach => o.rm,
     }
@@ -228,7 +228,7 @@ pub fn take_values(
     flow: &mut [u64],
 ) -> Stored
     requires { ⌜ (count ≤ 10) × (10 ≤ length (now values)) ⌝ }
-    requires { ⌜ MayTake o t (now values) ⌝ }
+    requires { ⌜ (repeatedIn o t ≡ false) × ThirdZero t (now values) ⌝ }
     requires { ⌜ Kept o nq (now rain) (now units) (now flow) ⌝ }
     ensures { λ r. ⌜ Taken t nq (take (spanBy t count) (now (values .entry))) o r (now (rain .entry)) (now (units .entry)) (now (flow .entry)) (now (rain .exit)) (now (units .exit)) (now (flow .exit)) ⌝ }
 {

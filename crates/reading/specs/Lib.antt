@@ -6,3 +6,6 @@ pub mod Fielding
 pub mod ReadOn
 pub mod Limits
 pub mod Within
+pub mod Stands
+pub mod Placing
+pub mod LineEvents

@@ -1,13 +1,21 @@
 // Reading a deck: from its bytes to its blocks.
 ghost use mathlib.Core.Path.{_≡_};
 ghost use mathlib.Core.Bool.{false, _||_};
-ghost use Prim.Native.Nat.{_+_, _≤_};
 ghost use lib.ListN.{length};
 ghost use Rattle.meaning.specs.Words.{if_then_else_, empty};
 ghost use Rattle.meaning.specs.Records.{ruleAt, faultyField};
 ghost use Rattle.rules.specs.Tables.{rulesBy};
 ghost use Rattle.reading.specs.Scanning.{kept, noted};
 ghost use Rattle.reading.specs.Scans.{scannedOf, blankBy};
+ghost use mathlib.Core.List.{List};
+ghost use Prim.Native.Nat.{ℕ, _+_, _≤_};
+ghost use Rattle.identifiers.specs.Heads.{itemIs, recordIs};
+ghost use Rattle.blocks.specs.Open.{repeatedIn};
+ghost use Rattle.reading.specs.Stands.{readingIs, itemBy, phaseOf, StandIs, MayRead};
+ghost use Rattle.reading.specs.Placing.{StandsFirst, StandsSecond, StandsThird, standItem};
+use blocks::Open;
+use identifiers::Item;
+use identifiers::Record;
 use rules::Field;
 use rules::Table;
 
@@ -77,6 +85,118 @@ fn note_field(values: &mut [u64], scan: Scan, t: Table, k: usize, f: &[u8]) -> N
                 faulty: false,
                 scan: note(scan, k, f.len(), outside),
             }
+        }
+    }
+}
+
+// Where the reading stands: before IT; after IT, before the first KK; in a block.
+pub enum Phase {
+    BeforeTime,
+    BeforeBlocks,
+    InBlock,
+}
+
+// Where the reading stands, the form in force, the time control and the open block. The block's lists stand beside it.
+pub struct Reading {
+    pub phase: Phase,
+    pub free: bool,
+    pub minutes: u64,
+    pub ordinates: usize,
+    pub open: Open,
+}
+
+// What a record does where the reading stands: it is out of place; the reading goes on in that form; it names a block; it ends the deck; it has fields.
+pub enum Stand {
+    Misplaced,
+    Passed(bool),
+    Named,
+    Last,
+    Fields(Table),
+}
+
+// Before IT.
+fn stand_first(free: bool, k: Record) -> Stand
+    ensures { λ s. ⌜ StandsFirst s free k ⌝ }
+{
+    match k {
+        Record::Id => Stand::Passed(free),
+        Record::It => Stand::Fields(Table::Time),
+        Record::Kk => Stand::Misplaced,
+        Record::Km => Stand::Passed(free),
+        Record::Zz => Stand::Misplaced,
+        Record::Free => Stand::Passed(true),
+        Record::Fix => Stand::Passed(false),
+        Record::Of(_) => Stand::Misplaced,
+    }
+}
+
+// After IT, before the first KK.
+fn stand_second(free: bool, k: Record) -> Stand
+    ensures { λ s. ⌜ StandsSecond s free k ⌝ }
+{
+    match k {
+        Record::Id => Stand::Misplaced,
+        Record::It => Stand::Misplaced,
+        Record::Kk => Stand::Named,
+        Record::Km => Stand::Passed(free),
+        Record::Zz => Stand::Last,
+        Record::Free => Stand::Passed(true),
+        Record::Fix => Stand::Passed(false),
+        Record::Of(_) => Stand::Misplaced,
+    }
+}
+
+fn table_of(item: Item) -> Table
+    ensures { λ t. ⌜ (itemBy t ≡ itemIs item) × (phaseOf t ≡ Phase.InBlock) ⌝ }
+{
+    match item {
+        Item::Ba => Table::Area,
+        Item::Pi => Table::Rain,
+        Item::Lu => Table::Loss,
+        Item::Ui => Table::Units,
+        Item::Qi => Table::Flow,
+        Item::Hc => Table::Joins,
+        Item::Rm => Table::Reach,
+    }
+}
+
+// A record that the open block holds, unless it is one of single values that is there already.
+fn stand_item(o: Open, t: Table) -> Stand
+    ensures { λ s. ⌜ s ≡ standItem (repeatedIn o t) t ⌝ }
+{
+    if blocks::is_repeated(o, t) {
+        return Stand::Misplaced;
+    }
+    Stand::Fields(t)
+}
+
+// In a block.
+fn stand_third(o: Open, free: bool, k: Record) -> Stand
+    ensures { λ s. ⌜ StandsThird s o free k ⌝ }
+{
+    match k {
+        Record::Id => Stand::Misplaced,
+        Record::It => Stand::Misplaced,
+        Record::Kk => Stand::Named,
+        Record::Km => Stand::Passed(free),
+        Record::Zz => Stand::Last,
+        Record::Free => Stand::Passed(true),
+        Record::Fix => Stand::Passed(false),
+        Record::Of(item) => stand_item(o, table_of(item)),
+    }
+}
+
+// What a record does where the reading stands.
+fn place_record(r: Reading, k: Record) -> Stand
+    ensures { λ s. ⌜ ((rain units flow : List ℕ) → StandIs s (readingIs r rain units flow) (recordIs k)) × MayRead s (r .phase) (r .open) ⌝ }
+{
+    let phase = r.phase;
+    match phase {
+        Phase::BeforeTime => stand_first(r.free, k),
+        Phase::BeforeBlocks => stand_second(r.free, k),
+        Phase::InBlock => {
+            let o = r.open;
+            stand_third(o, r.free, k)
         }
     }
 }

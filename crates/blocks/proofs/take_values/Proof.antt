@@ -12,7 +12,7 @@ enum-told-2 : tie.Need-enum-told-2
 enum-told-2 c = search needs
 
 take-area-requires : tie.Need-take-area-requires
-take-area-requires c κs = (rw (c .enum-told2 .given .1) at (c .before .before .before .before .before .before .pre .1 .0), omega arith)
+take-area-requires c κs = (rw (c .enum-told2 .given .1) at (c .before .before .before .before .before .before .pre .1 .0 .0), omega arith)
 
 enum-told-3 : tie.Need-enum-told-3
 enum-told-3 c = search needs
@@ -24,7 +24,7 @@ enum-told-4 : tie.Need-enum-told-4
 enum-told-4 c = search needs
 
 take-loss-requires : tie.Need-take-loss-requires
-take-loss-requires c κs = let m = rw (c .enum-told4 .given .1) at (c .before .before .before .before .before .before .pre .1 .0) in (m .0, omega arith, m .1)
+take-loss-requires c κs = (rw (c .enum-told4 .given .1) at (c .before .before .before .before .before .before .pre .1 .0 .0), omega arith, rw (c .enum-told4 .given .1) at (c .before .before .before .before .before .before .pre .1 .0 .1))
 
 enum-told-5 : tie.Need-enum-told-5
 enum-told-5 c = search needs
@@ -42,13 +42,13 @@ enum-told-7 : tie.Need-enum-told-7
 enum-told-7 c = search needs
 
 take-joins-requires : tie.Need-take-joins-requires
-take-joins-requires c κs = (rw (c .enum-told7 .given .1) at (c .before .before .before .before .before .before .pre .1 .0), omega arith)
+take-joins-requires c κs = (rw (c .enum-told7 .given .1) at (c .before .before .before .before .before .before .pre .1 .0 .0), omega arith)
 
 enum-told-8 : tie.Need-enum-told-8
 enum-told-8 c = search needs
 
 take-reach-requires : tie.Need-take-reach-requires
-take-reach-requires c κs = (rw (c .enum-told8 .given .1) at (c .before .before .before .before .before .before .pre .1 .0), omega arith)
+take-reach-requires c κs = (rw (c .enum-told8 .given .1) at (c .before .before .before .before .before .before .pre .1 .0 .0), omega arith)
 
 returns : tie.Need-returns
 returns c = rw (c .enum-told .given .1) (refl, refl, refl, refl, refl)

@@ -1,7 +1,8 @@
--- Each arm reads its own flag.
+-- Each arm is the definition at its record.
+use mathlib.Core.Path.{refl}
 use borrow.Author.Needs.{needs}
-use Rattle.blocks.proofs.is_given.Statement.{statement}
-use Rattle.blocks.proofs.is_given.Tie as tie
+use Rattle.reading.proofs.stand_second.Statement.{statement}
+use Rattle.reading.proofs.stand_second.Tie as tie
 
 enum-told : tie.Need-enum-told
 enum-told c = search needs
@@ -28,31 +29,31 @@ enum-told-8 : tie.Need-enum-told-8
 enum-told-8 c = search needs
 
 returns : tie.Need-returns
-returns c = rw (c .enum-told .given .1)
+returns c = rw (c .enum-told .given .1) (λ τ l. refl, λ o. tt)
 
 returns-2 : tie.Need-returns-2
-returns-2 c = rw (c .enum-told2 .given .1)
+returns-2 c = rw (c .enum-told2 .given .1) (λ τ l. refl, λ o. tt)
 
 returns-3 : tie.Need-returns-3
-returns-3 c = rw (c .enum-told3 .given .1)
+returns-3 c = rw (c .enum-told3 .given .1) (λ τ l. refl, λ o. tt)
 
 returns-4 : tie.Need-returns-4
-returns-4 c = rw (c .enum-told4 .given .1)
+returns-4 c = rw (c .enum-told4 .given .1) (λ τ l. refl, λ o. tt)
 
 returns-5 : tie.Need-returns-5
-returns-5 c = rw (c .enum-told5 .given .1)
+returns-5 c = rw (c .enum-told5 .given .1) (λ τ l. refl, λ o. tt)
 
 returns-6 : tie.Need-returns-6
-returns-6 c = rw (c .enum-told6 .given .1)
+returns-6 c = rw (c .enum-told6 .given .1) (λ τ l. refl, λ o. tt)
 
 returns-7 : tie.Need-returns-7
-returns-7 c = rw (c .enum-told7 .given .1)
+returns-7 c = rw (c .enum-told7 .given .1) (λ τ l. refl, λ o. tt)
 
 returns-8 : tie.Need-returns-8
-returns-8 c = rw (c .enum-told8 .given .1)
+returns-8 c = rw (c .enum-told8 .given .1) (λ τ l. refl, λ o. tt)
 
-pub is-given-spec : {M : Type 1} → statement M
-is-given-spec =
+pub stand-second-spec : {M : Type 1} → statement M
+stand-second-spec =
     tie.close
     (tie.spec
     enum-told
