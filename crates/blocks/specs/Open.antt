@@ -1,9 +1,9 @@
 -- What the code's open block means: a block of document 01, with the values of its lists.
-use Prim.Native.Nat.{ℕ, _+_, _≤_}
-use mathlib.Core.Path.{_≡_}
+use Prim.Native.Nat.{ℕ, _+_, _≤_, zero-le}
+use mathlib.Core.Path.{_≡_, refl}
 use mathlib.Core.Bool.{Bool, true, false}
 use mathlib.Core.List.{List, [], _∷_}
-use lib.ListN.{length, take, getD}
+use lib.ListN.{length, take, getD, replicate}
 use Rattle.meaning.specs.Records.{Item, BA, PI, LU, UI, QI, HC, RM}
 use Rattle.meaning.specs.Words.{met}
 use Rattle.meaning.specs.Blocks.{Card, Absent, Given, Block, Time, tooMany, withValues}
@@ -28,6 +28,10 @@ blockOf o rain units flow =
       hc = cardBy (o .hc) (o .joins ∷ []);
       rm = cardBy (o .rm) (o .steps ∷ o .travel ∷ o .weight ∷ []);
     }
+
+-- a block before its first record
+abbrev pub nothingOpen : Open
+nothingOpen = record { name = replicate 6 0; letters = 0; ba = false; area = 0; pi = false; rains = 0; lu = false; initial = 0; uniform = 0; ui = false; units = 0; qi = false; flows = 0; hc = false; joins = 0; rm = false; steps = 0; travel = 0; weight = 0 }
 
 -- a record of single values that is there already
 abbrev pub repeatedIn : Open → Table → Bool
@@ -96,3 +100,12 @@ Taken Units nq vs o r rain units flow rain′ units′ flow′ = TakesList UI nq
 Taken Flow nq vs o r rain units flow rain′ units′ flow′ = TakesList QI nq vs o r rain units flow rain′ units′ flow′
 Taken Joins nq vs o r rain units flow rain′ units′ flow′ = TakesList HC nq vs o r rain units flow rain′ units′ flow′
 Taken Reach nq vs o r rain units flow rain′ units′ flow′ = TakesList RM nq vs o r rain units flow rain′ units′ flow′
+
+-- it has room for its lists
+pub kept-nothing : (nq : ℕ) (rain units flow : List ℕ) → nq ≤ length rain → 150 ≤ length units → nq ≤ length flow → Kept nothingOpen nq rain units flow
+kept-nothing nq rain units flow h i j =
+    record {
+      few-letters = zero-le; few-rains = zero-le; few-units = zero-le; few-flows = zero-le;
+      no-rains = λ e. refl; no-units = λ e. refl; no-flows = λ e. refl;
+      rains-fit = h; units-fit = i; flows-fit = j;
+    }

@@ -9,7 +9,7 @@ ghost use lib.Seq.{paste};
 ghost use Rattle.meaning.specs.Records.{BA, PI, LU, UI, QI, HC, RM};
 ghost use Rattle.meaning.specs.Blocks.{kindOf};
 ghost use Rattle.blocks.specs.Kinds.{bitOf, kindMeant};
-ghost use Rattle.blocks.specs.Open.{blockOf, repeatedIn, Kept, TakesList, ThirdZero, Taken, spanBy};
+ghost use Rattle.blocks.specs.Open.{blockOf, nothingOpen, repeatedIn, Kept, TakesList, ThirdZero, Taken, spanBy};
 ghost use Rattle.meaning.specs.Words.{_<?_, if_then_else_};
 use rules::Table;
 
@@ -48,6 +48,33 @@ pub enum Kind {
 pub struct Stored {
     pub refusal: u64,
     pub open: Open,
+}
+
+// A block before its first record: no name yet.
+pub fn no_block() -> Open
+    ensures { λ r. ⌜ r ≡ nothingOpen ⌝ }
+{
+    Open {
+        name: [0u8; 6],
+        letters: 0,
+        ba: false,
+        area: 0,
+        pi: false,
+        rains: 0,
+        lu: false,
+        initial: 0,
+        uniform: 0,
+        ui: false,
+        units: 0,
+        qi: false,
+        flows: 0,
+        hc: false,
+        joins: 0,
+        rm: false,
+        steps: 0,
+        travel: 0,
+        weight: 0,
+    }
 }
 
 // Values behind those that a list holds already.

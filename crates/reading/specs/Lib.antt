@@ -9,3 +9,5 @@ pub mod Within
 pub mod Stands
 pub mod Placing
 pub mod LineEvents
+pub mod Taking
+pub mod LinesTaken

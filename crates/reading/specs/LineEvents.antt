@@ -82,7 +82,7 @@ span-by table.Flow n e = refl
 span-by table.Joins n e = refl
 span-by table.Reach n e = refl
 
-takes-by : (t : Table) (nq : ℕ) (vs : List ℕ) (o : Open) (r : Stored) (rain units flow rain′ units′ flow′ : List ℕ) → phaseOf t ≡ phase.InBlock
+pub takes-by : (t : Table) (nq : ℕ) (vs : List ℕ) (o : Open) (r : Stored) (rain units flow rain′ units′ flow′ : List ℕ) → phaseOf t ≡ phase.InBlock
     → Taken t nq vs o r rain units flow rain′ units′ flow′ → TakesList (itemBy t) nq vs o r rain units flow rain′ units′ flow′
 takes-by table.Time nq vs o r rain units flow rain′ units′ flow′ e h = not-timed e
 takes-by table.Area nq vs o r rain units flow rain′ units′ flow′ e h = h

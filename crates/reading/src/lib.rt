@@ -1,7 +1,7 @@
 // Reading a deck: from its bytes to its blocks.
 ghost use mathlib.Core.Path.{_≡_};
 ghost use mathlib.Core.Bool.{false, _||_};
-ghost use lib.ListN.{length};
+ghost use lib.ListN.{length, take, getD};
 ghost use Rattle.meaning.specs.Words.{if_then_else_, empty};
 ghost use Rattle.meaning.specs.Records.{ruleAt, faultyField};
 ghost use Rattle.rules.specs.Tables.{rulesBy};
@@ -10,7 +10,8 @@ ghost use Rattle.reading.specs.Scans.{scannedOf, blankBy};
 ghost use mathlib.Core.List.{List};
 ghost use Prim.Native.Nat.{ℕ, _+_, _≤_};
 ghost use Rattle.identifiers.specs.Heads.{itemIs, recordIs};
-ghost use Rattle.blocks.specs.Open.{repeatedIn};
+ghost use Rattle.blocks.specs.Open.{repeatedIn, Kept, ThirdZero, spanBy};
+ghost use Rattle.reading.specs.Taking.{timeTaken, ItemTaken, Ready, Passed, LineTaken};
 ghost use Rattle.reading.specs.Stands.{readingIs, itemBy, phaseOf, StandIs, MayRead};
 ghost use Rattle.reading.specs.Placing.{StandsFirst, StandsSecond, StandsThird, standItem};
 use blocks::Open;
@@ -198,5 +199,90 @@ fn place_record(r: Reading, k: Record) -> Stand
             let o = r.open;
             stand_third(o, r.free, k)
         }
+    }
+}
+
+// A line's values taken: the refusal, 0 for none, and where the reading stands then.
+pub struct Read {
+    pub refusal: u64,
+    pub reading: Reading,
+}
+
+// IT taken: minutes and ordinates.
+fn take_time(r: Reading, values: &[u64]) -> Read
+    requires { ⌜ (length (now values) ≡ 10) × (getD (now values) 3 0 ≤ 300) ⌝ }
+    ensures { λ x. ⌜ x ≡ timeTaken r (now (values .entry)) ⌝ }
+{
+    Read {
+        refusal: 0,
+        reading: Reading {
+            phase: Phase::BeforeBlocks,
+            free: r.free,
+            minutes: values[0],
+            ordinates: values[3] as usize,
+            open: blocks::no_block(),
+        },
+    }
+}
+
+// A record of the open block taken.
+fn take_item(
+    r: Reading,
+    t: Table,
+    values: &[u64],
+    count: usize,
+    rain: &mut [u64],
+    units: &mut [u64],
+    flow: &mut [u64],
+) -> Read
+    requires { ⌜ (count ≤ 10) × (10 ≤ length (now values)) ⌝ }
+    requires { ⌜ (repeatedIn (r .open) t ≡ false) × ThirdZero t (now values) ⌝ }
+    requires { ⌜ Kept (r .open) (r .ordinates) (now rain) (now units) (now flow) ⌝ }
+    ensures { λ x. ⌜ ItemTaken r t (take (spanBy t count) (now (values .entry))) x (now (rain .entry)) (now (units .entry)) (now (flow .entry)) (now (rain .exit)) (now (units .exit)) (now (flow .exit)) ⌝ }
+{
+    let o = r.open;
+    let stored = blocks::take_values(o, t, values, count, r.ordinates, rain, units, flow);
+    let next = stored.open;
+    Read {
+        refusal: stored.refusal,
+        reading: Reading {
+            phase: Phase::InBlock,
+            free: r.free,
+            minutes: r.minutes,
+            ordinates: r.ordinates,
+            open: next,
+        },
+    }
+}
+
+// A line's values, read without a fault: outside their limits they are refused by 7, else they are taken.
+fn take_line(
+    r: Reading,
+    t: Table,
+    values: &[u64],
+    scan: Scan,
+    rain: &mut [u64],
+    units: &mut [u64],
+    flow: &mut [u64],
+) -> Read
+    requires { ⌜ Ready r (now rain) (now units) (now flow) ⌝ }
+    requires { ⌜ (r .phase ≡ phaseOf t) × (repeatedIn (r .open) t ≡ false) ⌝ }
+    requires { ⌜ Passed t (scannedOf (now values) scan) ⌝ }
+    ensures { λ x. ⌜ LineTaken r t (scannedOf (now (values .entry)) scan) x (now (rain .entry)) (now (units .entry)) (now (flow .entry)) (now (rain .exit)) (now (units .exit)) (now (flow .exit)) ⌝ }
+{
+    if scan.outside {
+        return Read {
+            refusal: 7,
+            reading: r,
+        };
+    }
+    let phase = r.phase;
+    match phase {
+        Phase::BeforeTime => take_time(r, values),
+        Phase::BeforeBlocks => Read {
+            refusal: 5,
+            reading: r,
+        },
+        Phase::InBlock => take_item(r, t, values, scan.count, rain, units, flow),
     }
 }
