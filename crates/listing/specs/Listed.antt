@@ -11,9 +11,8 @@ use mathlib.Core.List.{List, [], _∷_, _++_, append-nil, append-assoc}
 use Prim.Native.Nat.{ℕ, zero, suc, _+_, _-_, _*_, _^_, _≤_, _<_}
 use native.Mathlib.Nat.{mul-le-mul-right}
 use native.Mathlib.Omega.{arith}
-use lib.ListN.{length, take, drop, replicate, length-append}
+use lib.ListN.{length, take}
 use lib.Seq.{take-at, drop-at, drop-drop}
-use Rattle.meaning.specs.Words.{bytes}
 use Rattle.meaning.specs.Lines.{lf, blank}
 use Rattle.meaning.specs.Fields.{trimEnd, isBlank}
 use Rattle.meaning.specs.Records.{anyBlank}
@@ -24,7 +23,8 @@ use Rattle.meaning.specs.Run.{Done}
 use Rattle.meaning.specs.Listing.{whole, twoPlaces, rounded, listed, listedAll, listingBy}
 use Rattle.sequences.specs.Parts.{part}
 use Rattle.results.specs.Peaks.{interval-bound, sum-bound}
-use Rattle.results.specs.Record.{recordBytes, record-of, length-record, length-blanksAfter, Each}
+use Rattle.results.specs.Record.{recordBytes, record-of, length-blanksAfter}
+use Rattle.results.specs.Records.{Each, length-record}
 use Rattle.listing.specs.declared.Figures.{Figures}
 use Rattle.listing.specs.Bytes.{fromLittleEndian, read-back}
 use Rattle.listing.specs.Trim.{trim-name}
@@ -76,41 +76,45 @@ figuresIn r =
     record {
       kind = kindNumber (kindOf (r .block));
       area = r .held .area;
-      peak = peakOf (r .held .flow);
+      peak = rounded (peakOf (r .held .flow));
       interval = intervalOf (peakOf (r .held .flow)) (r .held .flow);
       sum = sumOf (r .held .flow);
     }
 
 module _ (r : Result) (fit : Fits r) where
-  figures-of : figuresOf (recordOf r) ≡ figuresIn r
+  abbrev f : Figures
+  f = figuresIn r
+
+  abbrev peak : ℕ
+  peak = peakOf (r .held .flow)
+
+  figure-at : (a n : ℕ) → part (6 + a) n (recordOf r) ≡ part a n (tail (f .kind) (f .area) peak (f .interval) (f .sum))
+  figure-at a n = ap (part (6 + a) n) (record-of r) ∙ figure-part (r .block .name) (f .kind) (f .area) peak (f .interval) (f .sum) (fit .short) a n
+
+  figures-of : figuresOf (recordOf r) ≡ f
   figures-of =
-      let f = figuresIn r in
-      let at : (a n : ℕ) → part (6 + a) n (recordOf r) ≡ part a n (tail (f .kind) (f .area) (f .peak) (f .interval) (f .sum)) =
-      λ a n. ap (part (6 + a) n) (record-of r) ∙ figure-part (r .block .name) (f .kind) (f .area) (f .peak) (f .interval) (f .sum) (fit .short) a n in
       same-figures
-      (ap fromLittleEndian (at 0 1) ∙ read-back 1 (f .kind) (kind-below (kindOf (r .block))))
-      (ap fromLittleEndian (at 2 4) ∙ read-back 4 (f .area) (fit .area))
-      (ap fromLittleEndian (at 6 8) ∙ read-back 8 (f .peak) (fit .peak))
-      (ap fromLittleEndian (at 14 2) ∙ read-back 2 (f .interval) (fit .interval))
-      (ap fromLittleEndian (at 18 8) ∙ read-back 8 (f .sum) (fit .sum))
+      (ap fromLittleEndian (figure-at 0 1) ∙ read-back 1 (f .kind) (kind-below (kindOf (r .block))))
+      (ap fromLittleEndian (figure-at 2 4) ∙ read-back 4 (f .area) (fit .area))
+      (ap rounded (ap fromLittleEndian (figure-at 6 8) ∙ read-back 8 peak (fit .peak)))
+      (ap fromLittleEndian (figure-at 14 2) ∙ read-back 2 (f .interval) (fit .interval))
+      (ap fromLittleEndian (figure-at 18 8) ∙ read-back 8 (f .sum) (fit .sum))
 
   name-of : trimEnd isBlank (part 0 6 (recordOf r)) ≡ r .block .name
   name-of =
-      let f = figuresIn r in
       ap (λ (l : List ℕ). trimEnd isBlank (part 0 6 l)) (record-of r)
-      ∙ ap (trimEnd isBlank) (name-part (r .block .name) (f .kind) (f .area) (f .peak) (f .interval) (f .sum) (fit .short))
+      ∙ ap (trimEnd isBlank) (name-part (r .block .name) (f .kind) (f .area) peak (f .interval) (f .sum) (fit .short))
       ∙ trim-name (r .block .name) (6 - length (r .block .name)) (fit .plain)
 
-  line-parts : lineOf (recordOf r) ≡ r .block .name ++ figuresText (figuresIn r)
+  line-parts : lineOf (recordOf r) ≡ r .block .name ++ figuresText f
   unfolding lineOf
-  line-parts = ap (λ (l : List ℕ). l ++ figuresText (figuresOf (recordOf r))) name-of ∙ ap (λ (f : Figures). r .block .name ++ figuresText f) figures-of
+  line-parts = ap (λ (l : List ℕ). l ++ figuresText (figuresOf (recordOf r))) name-of ∙ ap (λ (g : Figures). r .block .name ++ figuresText g) figures-of
 
   pub line-of : lineOf (recordOf r) ≡ listed r
   unfolding figuresText listed
   line-of =
-      let f = figuresIn r in
       line-parts
-      ∙ regroup (r .block .name) (blank ∷ whole (f .kind)) (blank ∷ twoPlaces (f .area)) (blank ∷ twoPlaces (rounded (f .peak))) (blank ∷ whole (f .interval)) (blank ∷ whole (f .sum)) (lf ∷ [])
+      ∙ regroup (r .block .name) (blank ∷ whole (f .kind)) (blank ∷ twoPlaces (f .area)) (blank ∷ twoPlaces (f .peak)) (blank ∷ whole (f .interval)) (blank ∷ whole (f .sum)) (lf ∷ [])
 
 lines-front : (r records : List ℕ) (k : ℕ) → length r ≡ 32 → linesTo (suc k) (r ++ records) ≡ lineOf r ++ linesTo k records
 lines-front r records zero long = rw (take-at r records 32 long) (sym (append-nil (lineOf r)))

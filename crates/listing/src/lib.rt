@@ -1,11 +1,10 @@
 // The text that the program prints: a line for each record and the block count, or one line for a refusal.
 // Each function writes from a place on and answers the place behind what it wrote.
 ghost use mathlib.Core.Path.{_≡_};
-ghost use mathlib.Core.List.{[], _∷_, _++_};
+ghost use mathlib.Core.List.{[], _∷_};
 ghost use Prim.Native.Nat.{_+_, _*_, _<_, _≤_};
 ghost use lib.ListN.{length};
-ghost use Rattle.meaning.specs.Words.{bytes};
-ghost use Rattle.meaning.specs.Lines.{lf, blank};
+ghost use Rattle.meaning.specs.Lines.{blank};
 ghost use Rattle.meaning.specs.Fields.{trimEnd, isBlank};
 ghost use Rattle.meaning.specs.Listing.{digit, whole, twoPlaces, rounded, refusedLine};
 ghost use Rattle.listing.specs.Written.{Written};
@@ -82,7 +81,7 @@ fn round_flow(flow: u64) -> u64
     flow / 600_000 + flow % 600_000 / 300_000
 }
 
-// The numbers of a record.
+// The numbers of a line: area and peak in hundredths.
 struct Figures {
     pub kind: u64,
     pub area: u64,
@@ -126,7 +125,7 @@ fn read_figures(from: &[u8]) -> Figures
     Figures {
         kind: read_le(&from[6..7]),
         area: read_le(&from[8..12]),
-        peak: read_le(&from[12..20]),
+        peak: round_flow(read_le(&from[12..20])),
         interval: read_le(&from[20..22]),
         sum: read_le(&from[24..32]),
     }
@@ -139,7 +138,7 @@ fn write_figures(out: &mut [u8], at: usize, f: Figures) -> usize
 {
     let kind = write_number(out, at, f.kind);
     let area = write_amount(out, kind, f.area);
-    let peak = write_amount(out, area, round_flow(f.peak));
+    let peak = write_amount(out, area, f.peak);
     let interval = write_number(out, peak, f.interval);
     let sum = write_number(out, interval, f.sum);
     write_byte(out, sum, b'\n')

@@ -2,4 +2,5 @@
 pub mod View
 pub mod Joining
 pub mod Limits
+pub mod Kinds
 pub mod Unique
