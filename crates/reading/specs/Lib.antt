@@ -11,3 +11,4 @@ pub mod Placing
 pub mod LineEvents
 pub mod Taking
 pub mod LinesTaken
+pub mod Left

@@ -13,8 +13,11 @@ ghost use Rattle.identifiers.specs.Heads.{itemIs, recordIs};
 ghost use Rattle.blocks.specs.Open.{repeatedIn, Kept, ThirdZero, spanBy};
 ghost use Rattle.reading.specs.Taking.{timeTaken, ItemTaken, Ready, Passed, LineTaken};
 ghost use Rattle.reading.specs.Stands.{readingIs, itemBy, phaseOf, StandIs, MayRead};
+ghost use Rattle.fields.specs.Spans.{formOf, Stands};
+ghost use Rattle.reading.specs.Left.{leftBy, blankSpan, SpanTurn};
 ghost use Rattle.reading.specs.Placing.{StandsFirst, StandsSecond, StandsThird, standItem};
 use blocks::Open;
+use fields::Span;
 use identifiers::Item;
 use identifiers::Record;
 use rules::Field;
@@ -285,4 +288,67 @@ fn take_line(
         },
         Phase::InBlock => take_item(r, t, values, scan.count, rain, units, flow),
     }
+}
+
+// A name of a block: its bytes, of which the first `letters` count.
+pub struct Name {
+    pub bytes: [u8; 6],
+    pub letters: usize,
+}
+
+// What reading on has come to: a line refused, a block opened, the deck ended; or no line is left.
+pub enum Event {
+    Refused(u64),
+    Opened,
+    Ended,
+    Missing,
+}
+
+// The event, where the reading stood before its line, the name of a block that is opened, the place behind the line and the line's number.
+pub struct Got {
+    pub event: Event,
+    pub reading: Reading,
+    pub name: Name,
+    pub at: usize,
+    pub line: u64,
+}
+
+// Whether a field is left: one of the line, or one that the record names.
+fn is_left(length: usize, c: usize, i: usize, named: usize) -> bool
+    ensures { λ r. ⌜ r ≡ leftBy length c i named ⌝ }
+{
+    if c < length {
+        return true;
+    }
+    i < named
+}
+
+// Field `i` of a line past its end is blank, and the next one is looked for behind it.
+fn blank_span(free: bool, i: usize, c: usize) -> Span
+    requires { ⌜ i ≤ 100 ⌝ }
+    ensures { λ r. ⌜ r ≡ blankSpan (formOf free) i c ⌝ }
+{
+    if free {
+        return Span {
+            from: 0,
+            to: 0,
+            next: c,
+        };
+    }
+    Span {
+        from: 0,
+        to: 0,
+        next: 8 * i + 8,
+    }
+}
+
+// Field `i` of a line, looked for at `c`; past the line's end it is blank.
+fn next_span(free: bool, l: &[u8], i: usize, c: usize) -> Span
+    requires { ⌜ (i ≤ 100) × (length (now l) ≤ 80) × Stands (formOf free) (now l) i c ⌝ }
+    ensures { λ r. ⌜ SpanTurn (formOf free) (now (l .entry)) i c r ⌝ }
+{
+    if c < l.len() {
+        return fields::span_at(free, l, i, c);
+    }
+    blank_span(free, i, c)
 }
