@@ -12,3 +12,4 @@ pub mod LineEvents
 pub mod Taking
 pub mod LinesTaken
 pub mod Left
+pub mod Labels

@@ -14,6 +14,8 @@ ghost use Rattle.blocks.specs.Open.{repeatedIn, Kept, ThirdZero, spanBy};
 ghost use Rattle.reading.specs.Taking.{timeTaken, ItemTaken, Ready, Passed, LineTaken};
 ghost use Rattle.reading.specs.Stands.{readingIs, itemBy, phaseOf, StandIs, MayRead};
 ghost use Rattle.fields.specs.Spans.{formOf, Stands};
+ghost use Rattle.meaning.specs.Fields.{nameIn};
+ghost use Rattle.reading.specs.Labels.{Labels};
 ghost use Rattle.reading.specs.Left.{leftBy, blankSpan, SpanTurn};
 ghost use Rattle.reading.specs.Placing.{StandsFirst, StandsSecond, StandsThird, standItem};
 use blocks::Open;
@@ -351,4 +353,56 @@ fn next_span(free: bool, l: &[u8], i: usize, c: usize) -> Span
         return fields::span_at(free, l, i, c);
     }
     blank_span(free, i, c)
+}
+
+// A name copied out of its line.
+fn copy_name(f: &[u8]) -> Name
+    requires { ⌜ length (now f) ≤ 6 ⌝ }
+    ensures { λ r. ⌜ (take (r .letters) (r .bytes) ≡ now (f .entry)) × (r .letters ≤ 6) ⌝ }
+{
+    let mut bytes = [0u8; 6];
+    let mut i: usize = 0;
+    while i < f.len() {
+        bytes[i] = f[i];
+        i += 1;
+    }
+    Name {
+        bytes: bytes,
+        letters: i,
+    }
+}
+
+// The name that a KK line gives, and whether it is none.
+pub struct Label {
+    pub bad: bool,
+    pub name: Name,
+}
+
+fn no_name() -> Name
+    ensures { λ r. ⌜ r .letters ≤ 6 ⌝ }
+{
+    Name {
+        bytes: [0u8; 6],
+        letters: 0,
+    }
+}
+
+fn read_name(free: bool, l: &[u8]) -> Label
+    requires { ⌜ length (now l) ≤ 80 ⌝ }
+    ensures { λ r. ⌜ Labels (nameIn (formOf free) (now (l .entry))) r ⌝ }
+{
+    let span = names::name_span(free, l);
+    let from = span.from;
+    let to = span.to;
+    let f = &l[from..to];
+    if names::bad_name(f) {
+        return Label {
+            bad: true,
+            name: no_name(),
+        };
+    }
+    Label {
+        bad: false,
+        name: copy_name(f),
+    }
 }
