@@ -16,7 +16,7 @@ use Rattle.meaning.specs.Records.{Rule, Unnamed, Limited, ruleAt, BA, PI, LU, U
 use Rattle.rules.specs.declared.Table.{Table}
 use Rattle.rules.specs.declared.Table.the-variants.{Time, Area, Rain, Loss, Units, Flow, Joins, Reach}
 use Rattle.rules.specs.Tables.{rulesBy, namedBy}
-use Rattle.reading.specs.Trimming.{trim-split, blank-outside, faulty-split, BlankInside, named-inside, outside-split, trimmed-short}
+use Rattle.limits.specs.Trimming.{trim-split, blank-outside, faulty-split, BlankInside, named-inside, outside-split, trimmed-short}
 use Rattle.reading.specs.Scanning.{Scanned, scanFrom, scan-outside, scan-count, scan-first, scan-length}
 
 -- The fields that hold a record's values, and how many values a pass with that count kept for it.

@@ -19,7 +19,7 @@ use Rattle.fields.specs.declared.Span.{Span}
 use Rattle.fields.specs.Spans.{Stands, firstPlace, spanAt, fieldsFrom}
 use Rattle.fields.specs.Fixed.{start-bounds, start-next}
 use Rattle.fields.specs.Turns.{Turn, turn, first-stands, first-fields, fields-done}
-use Rattle.reading.specs.Trimming.{trim-split}
+use Rattle.limits.specs.Trimming.{trim-split}
 
 abbrev pub blanksFor : ℕ → ℕ → List (List ℕ) → List (List ℕ)
 blanksFor named i fs = fs ++ replicate (named - (i + length fs)) []

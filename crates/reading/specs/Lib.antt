@@ -1,11 +1,7 @@
 -- Definitions and laws of reading.
-pub mod Trimming
 pub mod Scanning
 pub mod Scans
 pub mod Fielding
-pub mod ReadOn
-pub mod Limits
-pub mod Within
 pub mod Stands
 pub mod Placing
 pub mod LineEvents
@@ -13,3 +9,5 @@ pub mod Taking
 pub mod LinesTaken
 pub mod Left
 pub mod Labels
+pub mod Getting
+pub mod Turning

@@ -25,7 +25,7 @@ use Rattle.blocks.specs.Open.{blockOf, repeatedIn, spanBy, ThirdZero, timeOf as
 use Rattle.reading.specs.declared.Phase.the-variants as phase
 use Rattle.reading.specs.Scanning.{Scanned}
 use Rattle.reading.specs.Fielding.{valueFieldsBy, spanOf, LineRead}
-use Rattle.reading.specs.Limits.{values-at-most}
+use Rattle.limits.specs.Limits.{values-at-most}
 use Rattle.reading.specs.Stands.{formIn, itemBy, phaseOf, itemEvent, timeEvent, fieldsEvent}
 use Rattle.reading.specs.Placing.{repeated-in, fields-item}
 
@@ -62,7 +62,7 @@ fields-by table.Flow fs e = refl
 fields-by table.Joins fs e = refl
 fields-by table.Reach fs e = refl
 
-rules-by : (t : Table) → phaseOf t ≡ phase.InBlock → rulesOf (itemBy t) ≡ rulesBy t
+pub rules-by : (t : Table) → phaseOf t ≡ phase.InBlock → rulesOf (itemBy t) ≡ rulesBy t
 rules-by table.Time e = not-timed e
 rules-by table.Area e = refl
 rules-by table.Rain e = refl

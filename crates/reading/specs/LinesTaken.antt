@@ -20,7 +20,7 @@ use Rattle.reading.specs.declared.Reading.{Reading}
 use Rattle.reading.specs.declared.Read.{Read}
 use Rattle.reading.specs.Scanning.{Scanned}
 use Rattle.reading.specs.Fielding.{valueFieldsBy, LineRead}
-use Rattle.reading.specs.Limits.{values-at-most}
+use Rattle.limits.specs.Limits.{values-at-most}
 use Rattle.reading.specs.Stands.{readingIs, readingBy, timeIs, phaseOf, fieldsEvent}
 use Rattle.reading.specs.LineEvents.{time-outside, time-event, outside-event, item-event, takes-by, third-zero}
 use Rattle.reading.specs.Taking.{timeTaken, ItemTaken, Ready, Passed, LineTaken}

@@ -15,11 +15,13 @@ ghost use Rattle.reading.specs.Taking.{timeTaken, ItemTaken, Ready, Pass
 ghost use Rattle.reading.specs.Stands.{readingIs, itemBy, phaseOf, StandIs, MayRead};
 ghost use Rattle.fields.specs.Spans.{formOf, Stands};
 ghost use Rattle.meaning.specs.Fields.{nameIn};
+ghost use Rattle.reading.specs.Getting.{Gets};
 ghost use Rattle.reading.specs.Labels.{Labels};
 ghost use Rattle.reading.specs.Left.{leftBy, blankSpan, SpanTurn};
 ghost use Rattle.reading.specs.Placing.{StandsFirst, StandsSecond, StandsThird, standItem};
 use blocks::Open;
 use fields::Span;
+use identifiers::Head;
 use identifiers::Item;
 use identifiers::Record;
 use rules::Field;
@@ -404,5 +406,117 @@ fn read_name(free: bool, l: &[u8]) -> Label
     Label {
         bad: false,
         name: copy_name(f),
+    }
+}
+
+// Reads on from line to line: to the next line that is refused, opens a block or ends the deck, or past the last line. The fields of a line are scanned in the
+// line's own turn, which is left at the line's end or at its first fault.
+pub fn read_on(
+    s: &[u8],
+    from: usize,
+    before: u64,
+    start: Reading,
+    rain: &mut [u64],
+    units: &mut [u64],
+    flow: &mut [u64],
+) -> Got
+    requires { ⌜ (from ≤ length (now s)) × (before ≤ from) ⌝ }
+    requires { ⌜ Ready start (now rain) (now units) (now flow) ⌝ }
+    ensures { λ r. ⌜ Gets (now (s .entry)) from before (readingIs start (now (rain .entry)) (now (units .entry)) (now (flow .entry))) r (now (rain .exit)) (now (units .exit)) (now (flow .exit)) ⌝ }
+{
+    let mut at = from;
+    let mut n = before;
+    let mut r = start;
+    let mut event = Event::Missing;
+    let mut name = no_name();
+    let mut values = [0u64; 10];
+    'line: while at < s.len() {
+        let line = lines::line_at(s, at);
+        let begin = at;
+        let end = line.end;
+        let fair = line.fair;
+        at = line.next;
+        n += 1;
+        if fair {
+            let l = &s[begin..end];
+            match identifiers::head_of(l) {
+                Head::Skipped => continue 'line,
+                Head::Unknown => {
+                    event = Event::Refused(4);
+                    break 'line;
+                }
+                Head::Holds(k) => match place_record(r, k) {
+                    Stand::Misplaced => {
+                        event = Event::Refused(5);
+                        break 'line;
+                    }
+                    Stand::Passed(free) => {
+                        r.free = free;
+                        continue 'line;
+                    }
+                    Stand::Named => {
+                        let label = read_name(r.free, l);
+                        if label.bad {
+                            event = Event::Refused(6);
+                            break 'line;
+                        }
+                        let given = label.name;
+                        name = given;
+                        event = Event::Opened;
+                        break 'line;
+                    }
+                    Stand::Last => {
+                        event = Event::Ended;
+                        break 'line;
+                    }
+                    Stand::Fields(t) => {
+                        let free = r.free;
+                        let named = rules::named_fields(t);
+                        let mut c = fields::first_place(free, l);
+                        let mut i: usize = 0;
+                        let mut scan = Scan {
+                            count: 0,
+                            outside: false,
+                        };
+                        loop {
+                            if is_left(l.len(), c, i, named) {
+                                let span = next_span(free, l, i, c);
+                                let a = span.from;
+                                let e = span.to;
+                                let noted = note_field(&mut values, scan, t, i, &l[a..e]);
+                                if noted.faulty {
+                                    event = Event::Refused(6);
+                                    break 'line;
+                                }
+                                let kept = noted.scan;
+                                scan = kept;
+                                i += 1;
+                                c = span.next;
+                            } else {
+                                let x = take_line(r, t, &values, scan, rain, units, flow);
+                                let refusal = x.refusal;
+                                if refusal != 0 {
+                                    event = Event::Refused(refusal);
+                                    break 'line;
+                                }
+                                let next = x.reading;
+                                r = next;
+                                continue 'line;
+                            }
+                        }
+                    }
+                },
+            }
+        } else {
+            event = Event::Refused(3);
+            break 'line;
+        }
+    }
+    Got {
+        event: event,
+        reading: r,
+        name: name,
+        at: at,
+        line: n,
     }
 }

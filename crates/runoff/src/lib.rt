@@ -51,18 +51,19 @@ fn ordinate_at(units: &[u64], excess: &[u64], i: usize) -> Flow
     Flow(sum)
 }
 
-// The ordinates of the runoff, one after the other.
-fn spread_into(q: &mut [u64], units: &[u64], excess: &[u64])
-    requires { ⌜ (length (now units) ≤ 150) × (length (now q) ≡ length (now excess)) ⌝ }
+// The excess of each interval becomes the ordinate of its runoff, the last first: an ordinate looks back and never ahead.
+fn spread(q: &mut [u64], units: &[u64])
+    requires { ⌜ length (now units) ≤ 150 ⌝ }
     requires { ⌜ AllUpTo 9_999_999 (now units) ⌝ }
-    requires { ⌜ AllUpTo 12_000_000 (now excess) ⌝ }
-    ensures { λ _. ⌜ now (q .exit) ≡ runoffOf (now (units .entry)) (now (excess .entry)) (length (now (q .entry))) ⌝ }
+    requires { ⌜ AllUpTo 12_000_000 (now q) ⌝ }
+    ensures { λ _. ⌜ now (q .exit) ≡ runoffOf (now (units .entry)) (now (q .entry)) (length (now (q .entry))) ⌝ }
 {
-    let mut i = 0;
-    while i < q.len() {
-        let flow = ordinate_at(units, excess, i);
-        q[i] = flow.0;
-        i += 1;
+    let mut i = q.len();
+    while 0 < i {
+        let last = i - 1;
+        let flow = ordinate_at(units, &q[0..i], last);
+        q[last] = flow.0;
+        i = last;
     }
 }
 
@@ -71,10 +72,8 @@ pub fn runoff_into(q: &mut [u64], units: &[u64], rains: &[u64], initial: Depth, 
     requires { ⌜ Storm (now units) (now rains) (length (now q)) ⌝ }
     ensures { λ _. ⌜ now (q .exit) ≡ stormRunoff (now (units .entry)) (now (rains .entry)) (initial .0) (uniform .0) (length (now (q .entry))) ⌝ }
 {
-    let n = q.len();
-    let mut room = [0u64; 300];
-    excess::excess_into(&mut room[0..n], rains, initial, uniform);
-    spread_into(q, units, &room[0..n]);
+    excess::excess_into(q, rains, initial, uniform);
+    spread(q, units);
 }
 
 // The inflow hydrograph, from the flows as listed.

@@ -14,9 +14,9 @@ use Rattle.meaning.specs.Fields.{Form, fieldsOf, nameIn}
 use Rattle.meaning.specs.Records.{Item, BA, PI, LU, UI, QI, HC, RM, Record, ID, IT, KK, KM, ZZ, Control, Of, Rule, Limited, timeRules, rulesOf, lists, filledUp, valueFields, anyFaulty, anyOutside, valuesFrom, badName}
 use Rattle.meaning.specs.Blocks.{Time, Card, Absent, Given, isGiven, valuesOf, Block, opened, cardOf, withValues, repeated, tooMany, value1, value2, value3}
 use Rattle.meaning.specs.Run.{Head, Faulty, Skipped, Holds, headOf, Reading, BeforeTime, BeforeBlocks, InBlock, Event, Refuse, Go, Open, End, unless, timeRefusal, timeOf, nameRefusal, itemValues, itemRefusal, withItem, readRecord, readBy, readLine}
-use Rattle.reading.specs.Trimming.{faulty-split}
-use Rattle.reading.specs.Limits.{highest, RulesUpTo, values-at-most, values-at-least, values-up-to}
-use Rattle.reading.specs.ReadOn.{Found, Missing, Met, metBy, readOn}
+use Rattle.limits.specs.Trimming.{faulty-split}
+use Rattle.limits.specs.Limits.{highest, RulesUpTo, values-at-most, values-at-least, values-up-to}
+use Rattle.limits.specs.ReadOn.{Found, Missing, Met, metBy, readOn}
 
 pub record TimeWithin (τ : Time) : Type 0 where
   pub some-minutes : 1 ≤ τ .minutes

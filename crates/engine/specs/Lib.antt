@@ -1,2 +1,0 @@
--- Laws of the engine.
-pub mod Closing
