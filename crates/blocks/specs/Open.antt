@@ -105,7 +105,14 @@ Taken Reach nq vs o r rain units flow rain′ units′ flow′ = TakesList RM nq
 pub kept-nothing : (nq : ℕ) (rain units flow : List ℕ) → nq ≤ length rain → 150 ≤ length units → nq ≤ length flow → Kept nothingOpen nq rain units flow
 kept-nothing nq rain units flow h i j =
     record {
-      few-letters = zero-le; few-rains = zero-le; few-units = zero-le; few-flows = zero-le;
-      no-rains = λ e. refl; no-units = λ e. refl; no-flows = λ e. refl;
-      rains-fit = h; units-fit = i; flows-fit = j;
+      few-letters = zero-le;
+      few-rains = zero-le;
+      few-units = zero-le;
+      few-flows = zero-le;
+      no-rains = λ e. refl;
+      no-units = λ e. refl;
+      no-flows = λ e. refl;
+      rains-fit = h;
+      units-fit = i;
+      flows-fit = j;
     }

@@ -56,9 +56,9 @@ field-turn form l i c r h short s e =
       past = λ z. absurd (omega arith);
       stands = t .stands;
       fields =
-      λ named z.
-      (let n : named - (i + suc (length (fieldsFrom form (i + 1) (r .next) l))) ≡ named - (i + 1 + length (fieldsFrom form (i + 1) (r .next) l)) = omega arith in
-      rw (t .fields, n));
+          λ named z.
+          (let n : named - (i + suc (length (fieldsFrom form (i + 1) (r .next) l))) ≡ named - (i + 1 + length (fieldsFrom form (i + 1) (r .next) l)) = omega arith in
+          rw (t .fields, n));
     }
 
 -- a blank one behind it
@@ -94,11 +94,11 @@ blank-turn form l i c r h s e =
       past = λ z. next;
       stands = stands;
       fields =
-      λ named z.
-      (let some = not-inside (length l) c i named h z in
-      let n : named - (i + 0) ≡ suc (named - (i + 1 + 0)) = omega arith in
-      let zero-part : r .to - r .from ≡ 0 = omega arith in
-      rw (none, later, n, zero-part));
+          λ named z.
+          (let some = not-inside (length l) c i named h z in
+          let n : named - (i + 0) ≡ suc (named - (i + 1 + 0)) = omega arith in
+          let zero-part : r .to - r .from ≡ 0 = omega arith in
+          rw (none, later, n, zero-part));
     }
 
 -- none are left
@@ -131,8 +131,28 @@ left-first form named l =
     record {
       blanks = h .0 + m;
       fields =
-      ap (λ (fs : List (List ℕ)). fs ++ replicate m []) split
-      ∙ append-assoc (fieldsOf form l) (replicate (h .0) []) (replicate m [])
-      ∙ ap (λ (fs : List (List ℕ)). fieldsOf form l ++ fs) (replicate-append-replicate (h .0) m []);
+          ap (λ (fs : List (List ℕ)). fs ++ replicate m []) split
+          ∙ append-assoc (fieldsOf form l) (replicate (h .0) []) (replicate m [])
+          ∙ ap (λ (fs : List (List ℕ)). fieldsOf form l ++ fs) (replicate-append-replicate (h .0) m []);
       enough = omega arith;
     }
+
+-- places stay small
+pub left-few : (n c i named : ℕ) → n ≤ 80 → i ≤ c + 4 → named ≤ 4 → leftBy n c i named ≡ true → i ≤ 84
+left-few n c i named short near few e =
+    ⊎-elim (λ (h : c < n). omega arith) (λ (h : n ≤ c). omega (arith, not-inside n c i named h e)) (below-or-not c n)
+
+-- and the way to the line's end shorter
+pub left-less : (n c i named next : ℕ) → leftBy n c i named ≡ true → (c < n → c < next) → (n ≤ c → n ≤ next) → (n - next) + (named - (i + 1)) < (n - c) + (named - i)
+left-less n c i named next e forth past =
+    ⊎-elim
+    (λ (h : c < n). omega (arith, forth h))
+    (λ (h : n ≤ c). omega (arith, past h, not-inside n c i named h e))
+    (below-or-not c n)
+
+pub left-near : (n c i named next : ℕ) → i ≤ c + 4 → named ≤ 4 → leftBy n c i named ≡ true → (c < n → c < next) → i + 1 ≤ next + 4
+left-near n c i named next near few e forth =
+    ⊎-elim
+    (λ (h : c < n). omega (arith, forth h))
+    (λ (h : n ≤ c). omega (arith, not-inside n c i named h e))
+    (below-or-not c n)

@@ -82,19 +82,19 @@ pub time-line : (r : Reading) (t : Table) (s : Scanned) (rain units flow : List 
 time-line r t s rain units flow h at k p e =
     record {
       event =
-      λ fs read.
-      (let read′ : LineRead table.Time fs s = subst (λ (u : Table). LineRead u fs s) h read in
-      rw (h, at) (time-event fs s read′ (BeforeTime (formOf (r .free))) e));
+          λ fs read.
+          (let read′ : LineRead table.Time fs s = subst (λ (u : Table). LineRead u fs s) h read in
+          rw (h, at) (time-event fs s read′ (BeforeTime (formOf (r .free))) e));
       ready =
-      λ z.
-      (let few = few-ordinates t s h p e in
-      record {
-        few-ordinates = few;
-        rain-room = k .rain-room;
-        unit-room = k .unit-room;
-        flow-room = k .flow-room;
-        kept = kept-nothing (getD (s .values) 3 0) rain units flow (omega (arith, k .rain-room)) (k .unit-room) (omega (arith, k .flow-room));
-      });
+          λ z.
+          (let few = few-ordinates t s h p e in
+          record {
+            few-ordinates = few;
+            rain-room = k .rain-room;
+            unit-room = k .unit-room;
+            flow-room = k .flow-room;
+            kept = kept-nothing (getD (s .values) 3 0) rain units flow (omega (arith, k .rain-room)) (k .unit-room) (omega (arith, k .flow-room));
+          });
     }
 
 pub item-line : (r : Reading) (t : Table) (s : Scanned) (x : Read) (rain units flow rain′ units′ flow′ : List ℕ) → phaseOf t ≡ phase.InBlock → r .phase ≡ phase.InBlock
@@ -103,16 +103,16 @@ pub item-line : (r : Reading) (t : Table) (s : Scanned) (x : Read) (rain units f
 item-line r t s x rain units flow rain′ units′ flow′ h at once k lr lu lf e i =
     record {
       event =
-      λ fs read.
-      rw (at, i .phase, i .free, i .minutes, i .ordinates)
-      (item-event t h fs s read (r .open) rain units flow once (r .minutes) (r .ordinates) (record { refusal = x .refusal; «open» = x .reading .open }) rain′ units′ flow′ (i .taken) (formOf (r .free)) e);
+          λ fs read.
+          rw (at, i .phase, i .free, i .minutes, i .ordinates)
+          (item-event t h fs s read (r .open) rain units flow once (r .minutes) (r .ordinates) (record { refusal = x .refusal; «open» = x .reading .open }) rain′ units′ flow′ (i .taken) (formOf (r .free)) e);
       ready =
-      λ z.
-      record {
-        few-ordinates = rw (i .ordinates) (k .few-ordinates);
-        rain-room = rw lr (k .rain-room);
-        unit-room = rw lu (k .unit-room);
-        flow-room = rw lf (k .flow-room);
-        kept = rw (i .ordinates) (takes-by t (r .ordinates) _ (r .open) _ rain units flow rain′ units′ flow′ h (i .taken) .kept z);
-      };
+          λ z.
+          record {
+            few-ordinates = rw (i .ordinates) (k .few-ordinates);
+            rain-room = rw lr (k .rain-room);
+            unit-room = rw lu (k .unit-room);
+            flow-room = rw lf (k .flow-room);
+            kept = rw (i .ordinates) (takes-by t (r .ordinates) _ (r .open) _ rain units flow rain′ units′ flow′ h (i .taken) .kept z);
+          };
     }

@@ -71,11 +71,12 @@ fields-item table.Reach r fs e = refl
 -- an item of the open block
 pub item-stands : (o : Open) (free : Bool) (i : Item) (t : Table) (again : Bool) → itemBy t ≡ itemIs i → phaseOf t ≡ phase.InBlock → again ≡ repeatedIn o t
     → StandsThird (standItem again t) o free (kind.Of i)
-item-stands o free i t true e p a =
-    (λ τ rain units flow l.
-    (let r : itemRefusal τ (blockOf o rain units flow) (itemIs i) (fieldsOf (formOf free) l) ≡ 5 =
-    rw e at (repeated-refused τ o t rain units flow (fieldsOf (formOf free) l) p (sym a)) in
-    rw r),
-    tt)
+item-stands o free i t true e p a = (
+  λ τ rain units flow l.
+      (let r : itemRefusal τ (blockOf o rain units flow) (itemIs i) (fieldsOf (formOf free) l) ≡ 5 =
+      rw e at (repeated-refused τ o t rain units flow (fieldsOf (formOf free) l) p (sym a)) in
+      rw r),
+  tt,
+)
 item-stands o free i t false e p a =
     (λ τ rain units flow l. rw (fields-item t (InBlock τ (formOf free) (blockOf o rain units flow)) (fieldsOf (formOf free) l) p, e), (sym p, sym a))

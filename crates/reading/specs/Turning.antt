@@ -16,10 +16,10 @@ use Rattle.meaning.specs.Words.{empty, first, met}
 use Rattle.meaning.specs.Lines.{linesOf, foreign}
 use Rattle.meaning.specs.Fields.{Form, trimEnd, fieldsIn, fieldsOf}
 use Rattle.meaning.specs.Records as records
-use Rattle.meaning.specs.Records.{anyFaulty}
-use Rattle.meaning.specs.Blocks.{Time}
+use Rattle.meaning.specs.Records.{ruleAt, faultyField, anyFaulty, badName}
+use Rattle.meaning.specs.Blocks.{Time, Block}
 use Rattle.meaning.specs.Run as run
-use Rattle.meaning.specs.Run.{BeforeTime, InBlock, Event, Refuse, Go, Open, End, Skipped, Faulty, Holds, headOf, readRecord, readBy, readLine, timeRefusal, itemRefusal}
+use Rattle.meaning.specs.Run.{BeforeTime, InBlock, Event, Refuse, Go, Open, End, Skipped, Faulty, Holds, headOf, readRecord, readBy, readLine, unless, timeRefusal, nameRefusal, itemRefusal}
 use Rattle.lines.specs.First.{FairAt, ForeignAt}
 use Rattle.fields.specs.Spans.{firstPlace, formOf}
 use Rattle.identifiers.specs.declared.Head.{Head}
@@ -32,14 +32,17 @@ use Rattle.rules.specs.declared.Table.the-variants as table
 use Rattle.rules.specs.Tables.{rulesBy, namedBy}
 use Rattle.blocks.specs.declared.Open as opens
 use Rattle.blocks.specs.Open.{blockOf, repeatedIn}
+use Rattle.reading.specs.declared.Phase.{Phase}
 use Rattle.reading.specs.declared.Phase.the-variants as phase
 use Rattle.reading.specs.declared.Reading.{Reading}
 use Rattle.limits.specs.ReadOn.{Found, Missing, Met, metBy, readOn}
 use Rattle.limits.specs.Trimming.{faulty-split}
-use Rattle.reading.specs.Scanning.{Scanned, scanFrom}
+use Rattle.reading.specs.Scanning.{Scanned, noted, scanFrom}
 use Rattle.reading.specs.Fielding.{LineRead, Fresh, line-read}
 use Rattle.reading.specs.Left.{leftFields, Starts, left-first}
-use Rattle.reading.specs.Stands.{readingIs, timeIs, phaseOf, itemBy, fieldsEvent}
+use Rattle.reading.specs.Stands.{readingIs, readingBy, timeIs, formIn, inForm, phaseOf, itemBy, nameEvent, fieldsEvent}
+use Rattle.reading.specs.Taking.{Ready}
+use Rattle.reading.specs.Getting.{openedIn}
 use Rattle.reading.specs.Placing.{repeated-in, fields-item}
 use Rattle.reading.specs.LineEvents.{rules-by}
 use Rattle.reading.specs.LinesTaken.{kind-of-table}
@@ -147,3 +150,58 @@ named-few table.Units = omega arith
 named-few table.Flow = omega arith
 named-few table.Joins = omega arith
 named-few table.Reach = omega arith
+
+-- THE READING IN ANOTHER FORM
+abbrev pub withFree : Reading → Bool → Reading
+withFree r free = record { phase = r .phase; free = free; minutes = r .minutes; ordinates = r .ordinates; «open» = r .open }
+
+in-form-by : (p : Phase) (τ : Time) (form next : Form) (b : Block) → readingBy p τ next b ≡ inForm next (readingBy p τ form b)
+in-form-by phase.BeforeTime τ form next b = refl
+in-form-by phase.BeforeBlocks τ form next b = refl
+in-form-by phase.InBlock τ form next b = refl
+
+pub in-form : (r : Reading) (free : Bool) (rain units flow : List ℕ) → readingIs (withFree r free) rain units flow ≡ inForm (formOf free) (readingIs r rain units flow)
+in-form r free rain units flow = in-form-by (r .phase) (timeIs r) (formOf (r .free)) (formOf free) (blockOf (r .open) rain units flow)
+
+pub ready-form : (r : Reading) (free : Bool) (rain units flow : List ℕ) → Ready r rain units flow → Ready (withFree r free) rain units flow
+ready-form r free rain units flow k =
+    record { few-ordinates = k .few-ordinates; rain-room = k .rain-room; unit-room = k .unit-room; flow-room = k .flow-room; kept = k .kept }
+
+form-in-by : (p : Phase) (τ : Time) (form : Form) (b : Block) → formIn (readingBy p τ form b) ≡ form
+form-in-by phase.BeforeTime τ form b = refl
+form-in-by phase.BeforeBlocks τ form b = refl
+form-in-by phase.InBlock τ form b = refl
+
+pub form-in : (r : Reading) (rain units flow : List ℕ) → formIn (readingIs r rain units flow) ≡ formOf (r .free)
+form-in r rain units flow = form-in-by (r .phase) (timeIs r) (formOf (r .free)) (blockOf (r .open) rain units flow)
+
+-- NAMES
+pub name-bad : (q : run.Reading) (name : List ℕ) → badName name ≡ true → nameEvent q name ≡ Refuse 6
+unfolding nameRefusal
+name-bad q name e = rw e
+
+pub name-good : (q : run.Reading) (name : List ℕ) → badName name ≡ false → nameEvent q name ≡ Open (openedIn q name)
+unfolding nameRefusal
+name-good q name e = rw e
+
+-- a refusal that is met
+pub unless-met : (n : ℕ) (e : Event) → (n ≡ 0 → ⊥) → unless n e ≡ Refuse n
+unless-met zero e h = absurd (h refl)
+unless-met (suc n) e h = refl
+
+pub unless-none : (n : ℕ) (e : Event) → n ≡ 0 → unless n e ≡ e
+unless-none n e z = rw z
+
+-- ONE FIELD NOTED
+module _ (rules : List records.Rule) (i : ℕ) (f : List ℕ) (later all : List (List ℕ)) where
+  pub fault-here : faultyField (ruleAt rules i) f ≡ true → anyFaulty rules i (f ∷ later) ≡ anyFaulty rules 0 all → anyFaulty rules 0 all ≡ true
+  unfolding anyFaulty
+  fault-here e h = sym h ∙ rw e
+
+  pub fault-later : faultyField (ruleAt rules i) f ≡ false → anyFaulty rules i (f ∷ later) ≡ anyFaulty rules 0 all → anyFaulty rules (i + 1) later ≡ anyFaulty rules 0 all
+  unfolding anyFaulty
+  fault-later e h = rw e at h
+
+  pub scan-later : (s s′ t : Scanned) → s′ ≡ noted rules i f s → scanFrom rules i (f ∷ later) s ≡ t → scanFrom rules (i + 1) later s′ ≡ t
+  unfolding scanFrom
+  scan-later s s′ t e h = rw e h
