@@ -6,7 +6,7 @@ use mathlib.Core.List.{List, [], _∷_, _++_, append-nil}
 use Prim.Native.Nat.{ℕ, suc, _+_, _-_, _≤_, _<_}
 use native.Mathlib.Omega.{arith}
 use lib.ListN.{length, take, drop, getD, length-append, length-take, length-drop, take-append-drop, drop-of-length-le}
-use lib.Seq.{length-take-le, take-at, drop-at, take-append-le, drop-append-le, drop-drop, getD-drop, getD-take, take-add}
+use lib.Seq.{length-take-le, take-all, take-at, drop-at, take-append-le, drop-append-le, drop-drop, getD-drop, getD-take, take-add}
 
 abbrev pub part : ℕ → ℕ → List ℕ → List ℕ
 part a n xs = take n (drop a xs)
@@ -77,3 +77,7 @@ pub part-part : (a n b m : ℕ) (xs : List ℕ) → b + m ≤ n → a + n ≤ le
 part-part a n b m xs h fits =
     let l : b + m ≤ length (part a n xs) = omega (arith, length-part a n xs fits) in
     sym (part-of-front b m (part a n xs) (drop n (drop a xs)) l) ∙ ap (part b m) (take-append-drop n (drop a xs)) ∙ ap (take m) (drop-drop b a xs)
+
+-- a part that reaches to the end
+pub part-to-end : (a : ℕ) (xs : List ℕ) → part a (length xs - a) xs ≡ drop a xs
+part-to-end a xs = take-all (length xs - a) (drop a xs) (simp length-drop (omega arith))

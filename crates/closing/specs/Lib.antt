@@ -1,0 +1,2 @@
+-- Laws of closing.
+pub mod Shapes

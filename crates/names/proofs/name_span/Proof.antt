@@ -1,0 +1,32 @@
+-- The name is field 1, where the line reaches it.
+use borrow.Author.Needs.{needs}
+use mathlib.Core.Path.{_∙_, ap, sym}
+use Prim.Native.Nat.{ℕ}
+use Rattle.fields.specs.Spans.{formOf, spanAt, Stands}
+use Rattle.fields.specs.Turns.{first-stands}
+use Rattle.names.specs.Names.{nameFrom}
+use Rattle.names.specs.Laws.{name-none, name-some}
+use Rattle.names.proofs.name_span.Statement.{statement}
+use Rattle.names.proofs.name_span.Tie as tie
+
+first-place-requires : tie.Need-first-place-requires
+first-place-requires c κs = search needs
+
+returns : tie.Need-returns
+returns c =
+    let a = c .before .before .before .args in
+    name-none (formOf (a .free)) (a .l .now) (c .before .first-place .result) (c .if1 .taken) ∙ ap (nameFrom (formOf (a .free)) (a .l .now)) (c .before .first-place .ensures)
+
+span-at-requires : tie.Need-span-at-requires
+span-at-requires c κs =
+    let a = c .before .before .before .args in
+    (search needs, search needs, rw (c .before .first-place .ensures) (first-stands (formOf (a .free)) (a .l .now)))
+
+returns-2 : tie.Need-returns-2
+returns-2 c =
+    let a = c .before .before .before .before .args in
+    c .span-at .ensures ∙ name-some (formOf (a .free)) (a .l .now) (c .before .before .first-place .result) (c .before .if1 .left)
+    ∙ ap (nameFrom (formOf (a .free)) (a .l .now)) (c .before .before .first-place .ensures)
+
+pub name-span-spec : {M : Type 1} → statement M
+name-span-spec = tie.close (tie.spec first-place-requires returns span-at-requires returns-2)

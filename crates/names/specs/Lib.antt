@@ -1,0 +1,4 @@
+-- Where the name on a KK line stands, and that it is the name.
+pub mod Names
+pub mod Laws
+pub mod Unique

@@ -1,0 +1,35 @@
+-- The number that was read is the field's, so it is small, and its value is the field's.
+use borrow.Author.Needs.{needs}
+use mathlib.Core.Path.{_≡_, _∙_, ap, sym}
+use Rattle.meaning.specs.Numbers.{inUnits, numberOf}
+use Rattle.numbers.specs.Reading.{numberIs}
+use Rattle.numbers.specs.Fields.{Small, number-small}
+use Rattle.numbers.proofs.read_value.Statement.{statement}
+use Rattle.numbers.proofs.read_value.Tie as tie
+
+read-number-requires : tie.Need-read-number-requires
+read-number-requires c κs = search needs
+
+enum-told : tie.Need-enum-told
+enum-told c = search needs
+
+enum-known-minus : tie.Need-enum-known-minus
+enum-known-minus c = search needs
+
+in-units-requires : tie.Need-in-units-requires
+in-units-requires c κs =
+    let read = rw (c .before .minus .given .1) at (c .before .before .before .read-number .ensures) in
+    let small = rw (← read) at (number-small (c .before .before .before .before .before .args .f .now)) in
+    (search needs, small .0)
+
+returns : tie.Need-returns
+unfolding inUnits
+returns c = ap (inUnits _) (rw (c .enum-told .given .1) at (c .before .before .read-number .ensures))
+
+returns-2 : tie.Need-returns-2
+returns-2 c = c .in-units .ensures ∙ ap (inUnits _) (rw (c .before .before .minus .given .1) at (c .before .before .before .before .read-number .ensures))
+
+pub read-value-spec : {M : Type 1} → statement M
+read-value-spec =
+    tie.close
+    (tie.spec read-number-requires enum-told enum-known-minus in-units-requires returns returns-2)

@@ -1,0 +1,153 @@
+// Numbers as fields hold them: an optional sign, a run of digits, an optional point and a second run. What is read is the value and the places as
+// written; only `in_units` knows how many places a field allows.
+ghost use mathlib.Core.Path.{_≡_};
+ghost use Prim.Native.Nat.{_+_, _*_, _^_, _≤_, _<_};
+ghost use lib.ListN.{length};
+ghost use Rattle.meaning.specs.Numbers.{numberOf, decimalOf, inUnits};
+ghost use Rattle.numbers.specs.Reading.{numberIs, valueIs, signLength, digitsFrom, counted};
+
+// Nothing that is a number; or whether below 0, the digits and how many of them stand behind the point.
+pub enum Number {
+    NoNumber,
+    Decimal(bool, u64, u64),
+}
+
+// A number in units of the last place that its field allows.
+pub enum Value {
+    Malformed,
+    Negative,
+    Units(u64),
+}
+
+// A run of digits: where it ends, and the number that it reads on to.
+pub struct Digits {
+    pub end: usize,
+    pub value: u64,
+}
+
+// The run of digits from `at` on, read on behind `start`.
+fn read_digits(s: &[u8], at: usize, start: u64) -> Digits
+    requires { ⌜ (length (now s) ≤ 11) × (at ≤ length (now s)) × (start < 10 ^ at) ⌝ }
+    ensures { λ r. ⌜ (r ≡ digitsFrom (now (s .entry)) at start) × (r .end ≤ length (now (s .entry))) × (r .value < 10 ^ r .end) ⌝ }
+{
+    let mut i = at;
+    let mut v = start;
+    while i < s.len() {
+        let b = s[i];
+        if b < 0x30 {
+            return Digits { end: i, value: v };
+        }
+        if 0x39 < b {
+            return Digits { end: i, value: v };
+        }
+        v = 10 * v + (b - 0x30) as u64;
+        i += 1;
+    }
+    Digits { end: i, value: v }
+}
+
+// A number has one digit at least and nine at most.
+fn count_digits(minus: bool, digits: u64, whole: usize, places: usize) -> Number
+    requires { ⌜ whole + places ≤ 11 ⌝ }
+    ensures { λ r. ⌜ numberIs r ≡ counted minus digits (whole + places) places ⌝ }
+{
+    let count = whole + places;
+    if count < 1 {
+        return Number::NoNumber;
+    }
+    if 9 < count {
+        return Number::NoNumber;
+    }
+    Number::Decimal(minus, digits, places as u64)
+}
+
+// The number that stands behind a sign, if there was one.
+fn read_unsigned(minus: bool, s: &[u8]) -> Number
+    requires { ⌜ length (now s) ≤ 11 ⌝ }
+    ensures { λ r. ⌜ numberIs r ≡ decimalOf minus (now (s .entry)) ⌝ }
+{
+    let whole = read_digits(s, 0, 0);
+    let end = whole.end;
+    if s.len() <= end {
+        return count_digits(minus, whole.value, end, 0);
+    }
+    let b = s[end];
+    if b != 0x2E {
+        return Number::NoNumber;
+    }
+    let from = end + 1;
+    let all = read_digits(s, from, whole.value);
+    let last = all.end;
+    if last < s.len() {
+        return Number::NoNumber;
+    }
+    count_digits(minus, all.value, end, last - from)
+}
+
+// How many bytes a sign takes, if `b` is one.
+fn sign_length(b: u8) -> usize
+    ensures { λ r. ⌜ r ≡ signLength b ⌝ }
+{
+    if b == 0x2B {
+        return 1;
+    }
+    if b == 0x2D {
+        return 1;
+    }
+    0
+}
+
+// The number in a field, which has no blanks around it. A sign, nine digits and a point are eleven bytes: a longer field holds none.
+pub fn read_number(f: &[u8]) -> Number
+    ensures { λ r. ⌜ numberIs r ≡ numberOf (now (f .entry)) ⌝ }
+{
+    if f.len() < 1 {
+        return Number::Decimal(false, 0, 0);
+    }
+    if 11 < f.len() {
+        return Number::NoNumber;
+    }
+    let b = f[0];
+    let at = sign_length(b);
+    read_unsigned(b == 0x2D, &f[at..])
+}
+
+fn ten_to(k: u64) -> u64
+    requires { ⌜ k ≤ 4 ⌝ }
+    ensures { λ r. ⌜ r ≡ 10 ^ k ⌝ }
+{
+    match k {
+        0 => 1,
+        1 => 10,
+        2 => 100,
+        3 => 1000,
+        _ => 10000,
+    }
+}
+
+// A number in units of the last of the places allowed.
+fn in_units(allowed: u64, minus: bool, digits: u64, places: u64) -> Value
+    requires { ⌜ (allowed ≤ 4) × (digits < 10 ^ 9) ⌝ }
+    ensures { λ r. ⌜ valueIs r ≡ inUnits allowed (numberIs (Number.Decimal minus digits places)) ⌝ }
+{
+    if allowed < places {
+        return Value::Malformed;
+    }
+    if minus {
+        if 0 < digits {
+            return Value::Negative;
+        }
+    }
+    Value::Units(digits * ten_to(allowed - places))
+}
+
+// The value of a field that allows so many places.
+pub fn read_value(f: &[u8], allowed: u64) -> Value
+    requires { ⌜ allowed ≤ 4 ⌝ }
+    ensures { λ r. ⌜ valueIs r ≡ inUnits allowed (numberOf (now (f .entry))) ⌝ }
+{
+    match read_number(f) {
+        Number::NoNumber => Value::Malformed,
+        Number::Decimal(minus, digits, places) => in_units(allowed, minus, digits, places),
+    }
+}

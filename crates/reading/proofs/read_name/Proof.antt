@@ -1,0 +1,61 @@
+-- The name stands where the span says; a sound one is short enough to be copied.
+use mathlib.Core.Path.{sym, ap, _∙_}
+use mathlib.Core.Bool.{true≢false}
+use native.Mathlib.Omega.{arith}
+use Rattle.meaning.specs.Records.{badName}
+use Rattle.fields.specs.Spans.{formOf}
+use Rattle.names.specs.Laws.{NameAt, name-found}
+use Rattle.reading.specs.Labels.{name-short}
+use borrow.Author.Needs.{needs}
+use Rattle.reading.proofs.read_name.Statement.{statement}
+use Rattle.reading.proofs.read_name.Tie as tie
+
+found : (c : tie.After-name-span) → NameAt (formOf (c .before .before .args .free)) (c .before .before .args .l .now) (c .name-span .result)
+found c = name-found (formOf (c .before .before .args .free)) (c .before .before .args .l .now) (c .before .before .pre) (c .name-span .result) (c .name-span .ensures)
+
+name-span-requires : tie.Need-name-span-requires
+name-span-requires c κs = search needs
+
+sub-f : tie.Need-sub-f
+sub-f c = let n = found c in omega arith
+
+part-f-start : tie.Need-part-f-start
+part-f-start c = let n = found c in omega arith
+
+part-f-end : tie.Need-part-f-end
+part-f-end c = let n = found c in omega arith
+
+bad-name-requires : tie.Need-bad-name-requires
+bad-name-requires c κs = search needs
+
+no-name-requires : tie.Need-no-name-requires
+no-name-requires c κs = search needs
+
+returns : tie.Need-returns
+returns c =
+    let n = found (c .before .before .before .before) in
+    record { bad = sym (c .before .if1 .taken) ∙ c .before .before .bad-name .ensures ∙ ap badName (n .name); same = λ z. absurd (true≢false z); short = c .no-name .ensures }
+
+copy-name-requires : tie.Need-copy-name-requires
+copy-name-requires c κs =
+    let f = c .before .before .f in
+    name-short _ (sym (c .before .bad-name .ensures) ∙ c .if1 .left)
+
+returns-2 : tie.Need-returns-2
+returns-2 c =
+    let n = found (c .before .before .before .before) in
+    record { bad = sym (c .before .if1 .left) ∙ c .before .before .bad-name .ensures ∙ ap badName (n .name); same = λ z. c .copy-name .ensures .0 ∙ n .name; short = c .copy-name .ensures .1 }
+
+pub read-name-spec : {M : Type 1} → statement M
+read-name-spec =
+    tie.close
+    (tie.spec
+    name-span-requires
+    sub-f
+    part-f-start
+    part-f-end
+    bad-name-requires
+    no-name-requires
+    returns
+    copy-name-requires
+    returns-2)

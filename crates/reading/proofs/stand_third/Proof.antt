@@ -1,0 +1,87 @@
+-- Each arm is the definition at its record; a record that the block holds, by the law of items.
+use mathlib.Core.Path.{refl}
+use Rattle.blocks.specs.Open.{repeatedIn}
+use Rattle.reading.specs.Placing.{item-stands}
+use borrow.Author.Needs.{needs}
+use Rattle.reading.proofs.stand_third.Statement.{statement}
+use Rattle.reading.proofs.stand_third.Tie as tie
+
+enum-told : tie.Need-enum-told
+enum-told c = search needs
+
+enum-told-2 : tie.Need-enum-told-2
+enum-told-2 c = search needs
+
+enum-told-3 : tie.Need-enum-told-3
+enum-told-3 c = search needs
+
+enum-told-4 : tie.Need-enum-told-4
+enum-told-4 c = search needs
+
+enum-told-5 : tie.Need-enum-told-5
+enum-told-5 c = search needs
+
+enum-told-6 : tie.Need-enum-told-6
+enum-told-6 c = search needs
+
+enum-told-7 : tie.Need-enum-told-7
+enum-told-7 c = search needs
+
+enum-known-k : tie.Need-enum-known-k
+enum-known-k c = search needs
+
+table-of-requires : tie.Need-table-of-requires
+table-of-requires c κs = search needs
+
+stand-item-requires : tie.Need-stand-item-requires
+stand-item-requires c κs = search needs
+
+returns : tie.Need-returns
+returns c = rw (c .enum-told .given .1) (λ τ rain units flow l. refl, tt)
+
+returns-2 : tie.Need-returns-2
+returns-2 c = rw (c .enum-told2 .given .1) (λ τ rain units flow l. refl, tt)
+
+returns-3 : tie.Need-returns-3
+returns-3 c = rw (c .enum-told3 .given .1) (λ τ rain units flow l. refl, tt)
+
+returns-4 : tie.Need-returns-4
+returns-4 c = rw (c .enum-told4 .given .1) (λ τ rain units flow l. refl, tt)
+
+returns-5 : tie.Need-returns-5
+returns-5 c = rw (c .enum-told5 .given .1) (λ τ rain units flow l. refl, tt)
+
+returns-6 : tie.Need-returns-6
+returns-6 c = rw (c .enum-told6 .given .1) (λ τ rain units flow l. refl, tt)
+
+returns-7 : tie.Need-returns-7
+returns-7 c = rw (c .enum-told7 .given .1) (λ τ rain units flow l. refl, tt)
+
+returns-8 : tie.Need-returns-8
+returns-8 c =
+    let x = c .before .before .before .before .before .args in
+    let t = c .before .table-of in
+    rw (c .before .before .before .k .given .1, c .stand-item .ensures) (item-stands (x .o) (x .free) (c .before .before .before .k .given .0 .0) (t .result) (repeatedIn (x .o) (t .result)) (t .ensures .0) (t .ensures .1) refl)
+
+pub stand-third-spec : {M : Type 1} → statement M
+stand-third-spec =
+    tie.close
+    (tie.spec
+    enum-told
+    enum-told-2
+    enum-told-3
+    enum-told-4
+    enum-told-5
+    enum-told-6
+    enum-told-7
+    enum-known-k
+    table-of-requires
+    stand-item-requires
+    returns
+    returns-2
+    returns-3
+    returns-4
+    returns-5
+    returns-6
+    returns-7
+    returns-8)

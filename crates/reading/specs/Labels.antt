@@ -1,0 +1,25 @@
+-- What the code's label means: the name on a KK line, where it is one.
+use Prim.Native.Nat.{ℕ, _≤_}
+use mathlib.Core.Path.{_≡_, refl}
+use mathlib.Core.Bool.{Bool, true, false, _||_, true≢false}
+use mathlib.Core.List.{List}
+use native.Mathlib.Omega.{arith}
+use borrow.Author.Tests.{ltb-false}
+use lib.ListN.{length, take}
+use Rattle.meaning.specs.Words.{_<?_, empty}
+use Rattle.meaning.specs.Records.{anyBlank, badName}
+use Rattle.reading.specs.declared.Label.{Label}
+
+pub record Labels (name : List ℕ) (r : Label) : Type 0 where
+  pub bad : r .bad ≡ badName name
+  pub same : r .bad ≡ false → take (r .name .letters) (r .name .bytes) ≡ name
+  pub short : r .name .letters ≤ 6
+
+-- a sound name has six bytes at most
+or-neither : (a b : Bool) → (a || b) ≡ false → (a ≡ false) × (b ≡ false)
+or-neither true b e = absurd (true≢false e)
+or-neither false b e = (refl, e)
+
+pub name-short : (name : List ℕ) → badName name ≡ false → length name ≤ 6
+unfolding badName
+name-short name e = omega (arith, ltb-false 6 (length name) (or-neither (empty name) (6 <? length name) (or-neither (empty name || (6 <? length name)) (anyBlank name) e .0) .1))

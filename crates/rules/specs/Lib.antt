@@ -1,0 +1,2 @@
+-- What the code's tables and rules mean.
+pub mod Tables

@@ -1,0 +1,6 @@
+-- What is held as the work words have it, and the laws of holding, joining and routing there.
+pub mod View
+pub mod Joining
+pub mod Limits
+pub mod Kinds
+pub mod Unique

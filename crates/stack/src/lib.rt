@@ -1,0 +1,126 @@
+// The hydrographs held: their areas by value and their ordinates in the lent work words, 300 words to a place. A function for each kind of block works on
+// those held last, in the part of the work words from 300 times the place.
+ghost use mathlib.Core.Path.{_≡_};
+ghost use mathlib.Core.List.{_∷_};
+ghost use Prim.Native.Nat.{_+_, _-_, _*_, _≤_};
+ghost use lib.ListN.{length, take, drop};
+ghost use Rattle.sequences.specs.Bounds.{AllUpTo};
+ghost use Rattle.sequences.specs.Parts.{part, put};
+ghost use Rattle.meaning.specs.Water.{inflowOf, routedOf};
+ghost use Rattle.meaning.specs.Blocks.{total};
+ghost use Rattle.routing.specs.Soundness.{Reach};
+ghost use Rattle.runoff.specs.Storm.{Storm, stormRunoff};
+ghost use Rattle.stack.specs.View.{Fits, view, noneHeld, pushed, heldOf, routedHeld};
+ghost use Rattle.stack.specs.Joining.{joinedPair, joinedWords, joinedStack, joinedAllWords};
+ghost use Rattle.stack.specs.Limits.{Tops, Within, Added};
+use units::Depth;
+
+// How many are held, and the area of each in hundredths of a square mile, the first held first.
+pub struct Stack {
+    pub areas: [u32; 20],
+    pub depth: usize,
+}
+
+pub fn hold_none() -> Stack
+    ensures { λ r. ⌜ r ≡ noneHeld ⌝ }
+{
+    Stack {
+        areas: [0u32; 20],
+        depth: 0,
+    }
+}
+
+fn push(stack: Stack, area: u32) -> Stack
+    requires { ⌜ stack .depth + 1 ≤ 20 ⌝ }
+    ensures { λ r. ⌜ r ≡ pushed area stack ⌝ }
+{
+    let at = stack.depth;
+    let mut areas = stack.areas;
+    areas[at] = area;
+    Stack {
+        areas,
+        depth: at + 1,
+    }
+}
+
+// A basin: the runoff of its storm is held.
+pub fn hold_basin(
+    work: &mut [u64],
+    stack: Stack,
+    nq: usize,
+    area: u32,
+    units: &[u64],
+    rains: &[u64],
+    initial: Depth,
+    uniform: Depth,
+) -> Stack
+    requires { ⌜ Fits (stack .depth + 1) nq (length (now work)) ⌝ }
+    requires { ⌜ Storm (now units) (now rains) nq ⌝ }
+    ensures { λ r. ⌜ r ≡ pushed area stack ⌝ }
+    ensures words { λ _. ⌜ now (work .exit) ≡ put (300 * stack .depth) nq (now (work .entry)) (stormRunoff (now (units .entry)) (now (rains .entry)) (initial .0) (uniform .0) nq) ⌝ }
+    ensures held { λ r. ⌜ view r nq (now (work .exit)) ≡ heldOf area (stormRunoff (now (units .entry)) (now (rains .entry)) (initial .0) (uniform .0) nq) ∷ view stack nq (now (work .entry)) ⌝ }
+{
+    let p = 300 * stack.depth;
+    runoff::runoff_into(&mut work[p..p + nq], units, rains, initial, uniform);
+    push(stack, area)
+}
+
+// An inflow: the flows listed are held.
+pub fn hold_inflow(work: &mut [u64], stack: Stack, nq: usize, area: u32, values: &[u64]) -> Stack
+    requires { ⌜ Fits (stack .depth + 1) nq (length (now work)) ⌝ }
+    requires { ⌜ AllUpTo 10_000_000 (now values) ⌝ }
+    ensures { λ r. ⌜ r ≡ pushed area stack ⌝ }
+    ensures words { λ _. ⌜ now (work .exit) ≡ put (300 * stack .depth) nq (now (work .entry)) (inflowOf (now (values .entry)) nq) ⌝ }
+    ensures held { λ r. ⌜ view r nq (now (work .exit)) ≡ heldOf area (inflowOf (now (values .entry)) nq) ∷ view stack nq (now (work .entry)) ⌝ }
+{
+    let p = 300 * stack.depth;
+    runoff::inflow_into(&mut work[p..p + nq], values);
+    push(stack, area)
+}
+
+// The last two held become one, their sum, in the place of the lower.
+fn join_pair(work: &mut [u64], stack: Stack, nq: usize) -> Stack
+    requires { ⌜ (2 ≤ stack .depth) × Fits (stack .depth) nq (length (now work)) ⌝ }
+    requires { ⌜ Tops 24_000_000_000_000 (view stack nq (now work)) ⌝ }
+    requires { ⌜ total (view stack nq (now work)) .area ≤ 199_999_800 ⌝ }
+    ensures { λ r. ⌜ (r ≡ joinedPair stack) × (now (work .exit) ≡ joinedWords (stack .depth) nq (now (work .entry))) ⌝ }
+{
+    let last = stack.depth - 1;
+    let lower = stack.depth - 2;
+    let p = 300 * lower;
+    confluence::add_from(&mut work[p..p + 600], 300, nq);
+    let mut areas = stack.areas;
+    areas[lower] = areas[last] + areas[lower];
+    Stack { areas, depth: last }
+}
+
+// A confluence: the last `n` held become one, their sum. It may pass the limit of a flow.
+pub fn join_last(work: &mut [u64], stack: Stack, nq: usize, n: usize) -> Stack
+    requires { ⌜ Added n (stack .depth) ⌝ }
+    requires { ⌜ Fits (stack .depth) nq (length (now work)) ⌝ }
+    requires { ⌜ Within (view stack nq (now work)) ⌝ }
+    requires { ⌜ total (view stack nq (now work)) .area ≤ 199_999_800 ⌝ }
+    ensures { λ r. ⌜ r ≡ joinedStack (n - 1) stack ⌝ }
+    ensures words { λ _. ⌜ now (work .exit) ≡ joinedAllWords (n - 1) (stack .depth) nq (now (work .entry)) ⌝ }
+    ensures held { λ r. ⌜ view r nq (now (work .exit)) ≡ total (take n (view stack nq (now (work .entry)))) ∷ drop n (view stack nq (now (work .entry))) ⌝ }
+{
+    let mut joined = stack;
+    let mut left = n - 1;
+    while 0 < left {
+        joined = join_pair(work, joined, nq);
+        left -= 1;
+    }
+    joined
+}
+
+// A reach: the last held is routed, and keeps its area.
+pub fn route_last(work: &mut [u64], stack: Stack, nq: usize, n: u64, m: u64, k: u64, x: u64)
+    requires { ⌜ (1 ≤ stack .depth) × Fits (stack .depth) nq (length (now work)) ⌝ }
+    requires { ⌜ Within (view stack nq (now work)) ⌝ }
+    requires { ⌜ Reach n m k x ⌝ }
+    ensures { λ _. ⌜ now (work .exit) ≡ put (300 * (stack .depth - 1)) nq (now (work .entry)) (routedOf n m k x (part (300 * (stack .depth - 1)) nq (now (work .entry)))) ⌝ }
+    ensures held { λ _. ⌜ view stack nq (now (work .exit)) ≡ routedHeld n m k x (total (take 1 (view stack nq (now (work .entry))))) ∷ drop 1 (view stack nq (now (work .entry))) ⌝ }
+{
+    let p = 300 * (stack.depth - 1);
+    routing::route(&mut work[p..p + nq], n, m, k, x);
+}
