@@ -1,2 +1,0 @@
--- Laws of closing.
-pub mod Shapes
