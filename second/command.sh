@@ -103,7 +103,7 @@ if [ "$(id -u)" != 0 ]; then
     try 'a closed file' 2 '' 'hec1: closed.hc1: cannot be read\n' "$hec1" closed.hc1
 fi
 
-for odd in 'a b.hc1' ' lead.hc1' '-x.hc1' '-' '--help' '-h' "it's.hc1" '$(echo x).hc1' '*.hc1' '%s.hc1' 'back\slash.hc1' '"q".hc1'; do
+for odd in 'a b.hc1' ' lead.hc1' '-x.hc1' '-' '--help' '-h' "it's.hc1" '$(echo x).hc1' '*.hc1' '%s.hc1' 'back\slash.hc1' '"q".hc1' "$(printf '\303\204.hc1')"; do
     # './-' is a file; '-' would be standard input
     case $odd in -) word=./- ;; *) word=$odd ;; esac
     printf '%b' "$good" >"./$odd"
@@ -278,7 +278,7 @@ awk -v steps="$scratch/steps" '
         next
     }
     console { print >(base ".expected") }' "$root/docs/USERS.md"
-block=
+block="" last=0
 for command in "$scratch"/steps/*.command; do
     base=${command%.command}
     # a block's commands share the last exit status, as in a shell
