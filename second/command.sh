@@ -1,0 +1,399 @@
+#!/bin/sh
+# command.sh
+# Tests the command ./hec1: listings, words of refusals, exit status, odd names, standard input, several files,
+# bundles, and how it builds the program; every transcript of docs/USERS.md; every deck of examples/ against the
+# listing beside it. The last line is 'N passed, M failed', and the exit status agrees.
+#
+# The proved program is used where crates/hec1 and crates/bundle are there, else the second program.
+set -u
+root=$(CDPATH="" cd -- "$(dirname -- "$0")/.." && pwd -P) || exit 2
+scratch=$(mktemp -d) || exit 2
+trap 'rm -rf "$scratch"' EXIT
+trap 'exit 1' HUP INT TERM
+passed=0
+failed=0
+
+sh "$root/second/build.sh" || exit 2
+second=$root/target/second/hec1
+if [ -n "${HEC1_PROGRAM:-}" ]; then
+    echo "the program is $HEC1_PROGRAM"
+elif [ -d "$root/crates/hec1" ] && [ -d "$root/crates/bundle" ]; then
+    HEC1_PROGRAM=
+    echo "the program is the proved one"
+    # built here, so that no test below sees the words of a first use
+    "$root/hec1" </dev/null >/dev/null
+    "$root/hec1" --bundle </dev/null >/dev/null
+else
+    HEC1_PROGRAM=$second
+    echo "the program is the second one: the proved one is not there"
+fi
+export HEC1_PROGRAM
+
+# same NAME EXPECTED GOT: two files must be equal
+same() {
+    if cmp -s "$2" "$3"; then
+        passed=$((passed + 1))
+    else
+        failed=$((failed + 1))
+        printf 'FAILED: %s\n' "$1"
+        diff "$2" "$3" | head -n 20
+    fi
+}
+
+# holds NAME COMMAND...: a command must succeed
+holds() {
+    what=$1
+    shift
+    if "$@"; then
+        passed=$((passed + 1))
+    else
+        failed=$((failed + 1))
+        printf 'FAILED: %s\n' "$what"
+    fi
+}
+
+# try NAME STATUS OUT ERR WORD...: runs the words on the file 'in' and compares all three; OUT and ERR are for printf's %b
+try() {
+    name=$1
+    { printf 'status %s\n-- out\n%b-- err\n%b' "$2" "$3" "$4"; } >"$scratch/expected"
+    shift 4
+    "$@" <"$scratch/in" >"$scratch/out" 2>"$scratch/err"
+    ended=$?
+    { printf 'status %s\n-- out\n' "$ended"; cat "$scratch/out"; echo '-- err'; cat "$scratch/err"; } >"$scratch/got"
+    same "$name" "$scratch/expected" "$scratch/got"
+}
+
+input() { printf '%b' "$1" >"$scratch/in"; }
+
+# ---- listings, names and standard input
+
+place=$scratch/place
+mkdir "$place" && cd "$place" || exit 2
+good='*FREE\nIT 60,,,4\nKK A\nQI 1,2\nZZ\n'
+good_list='A 2 0.00 2.00 2 180000000\nEND 1\n'
+bad='ID BAD\n*FREE\nIT 60,,,4\nKK A\nPI 1\nKM\nPI 25.0\nZZ\n'
+bad_list='REFUSED 7 7\n'
+bad_words=':7: value outside its limits (refusal 7): PI 25.0\n'
+open_words=': no ZZ line (refusal 16)\n'
+hec1=$root/hec1
+input ''
+printf '%b' "$good" >good.hc1
+printf '%b' "$bad" >pond.hc1
+printf 'ID OPEN\n' >open.hc1
+
+try 'a good deck' 0 "$good_list" '' "$hec1" good.hc1
+try 'a refused deck' 1 "$bad_list" "pond.hc1$bad_words" "$hec1" pond.hc1
+try 'a refusal without a line' 1 'REFUSED 16 0\n' "open.hc1$open_words" "$hec1" open.hc1
+input "$good"
+try 'standard input' 0 "$good_list" '' "$hec1"
+try 'standard input by its name' 0 "$good_list" '' "$hec1" -
+input "$bad"
+try 'standard input, refused' 1 "$bad_list" "-$bad_words" "$hec1"
+try 'several files' 1 "== good.hc1\n${good_list}== pond.hc1\n${bad_list}== good.hc1\n$good_list" "pond.hc1$bad_words" \
+    "$hec1" good.hc1 pond.hc1 good.hc1
+try 'several files, one of them standard input' 1 "== good.hc1\n${good_list}== -\n$bad_list" "-$bad_words" "$hec1" good.hc1 -
+try 'several good files' 0 "== good.hc1\n${good_list}== ./good.hc1\n$good_list" '' "$hec1" good.hc1 ./good.hc1
+try 'a missing file' 2 '' 'hec1: none.hc1: no such file\n' "$hec1" none.hc1
+try 'a folder' 2 '' 'hec1: .: is a folder\n' "$hec1" .
+try 'a missing file among others' 2 "== good.hc1\n${good_list}== pond.hc1\n$bad_list" \
+    "hec1: none.hc1: no such file\npond.hc1$bad_words" "$hec1" good.hc1 none.hc1 pond.hc1
+if [ "$(id -u)" != 0 ]; then
+    printf '%b' "$good" >closed.hc1
+    chmod 000 closed.hc1
+    try 'a closed file' 2 '' 'hec1: closed.hc1: cannot be read\n' "$hec1" closed.hc1
+fi
+
+for odd in 'a b.hc1' ' lead.hc1' '-x.hc1' '-' '--help' '-h' "it's.hc1" '$(echo x).hc1' '*.hc1' '%s.hc1' 'back\slash.hc1' '"q".hc1' "$(printf '\303\204.hc1')"; do
+    # './-' is a file; '-' would be standard input
+    case $odd in -) word=./- ;; *) word=$odd ;; esac
+    printf '%b' "$good" >"./$odd"
+    try "the name $odd" 0 "$good_list" '' "$hec1" "$word"
+    printf '%b' "$bad" >"./$odd"
+    printf '%s' "$word" | sed 's/\\/\\\\/g' >"$scratch/word"
+    try "the name $odd, refused" 1 "$bad_list" "$(cat "$scratch/word")$bad_words" "$hec1" "$word"
+    rm -f "./$odd"
+done
+printf '%b' "$good" >./--bundle
+try 'a file called --bundle, behind --' 0 "$good_list" '' "$hec1" -- --bundle
+try 'a file called --bundle, with its folder' 0 "$good_list" '' "$hec1" ./--bundle
+rm -f ./--bundle
+printf '%b' "$bad" >"new
+line.hc1"
+try 'a name of two lines' 1 "$bad_list" "new?line.hc1$bad_words" "$hec1" 'new
+line.hc1'
+rm -f ./new*
+mkdir 'sub folder'
+cp pond.hc1 'sub folder/'
+try 'a folder with a blank' 1 "$bad_list" "sub folder/pond.hc1$bad_words" "$hec1" 'sub folder/pond.hc1'
+mkfifo pipe
+printf '%b' "$bad" >pipe &
+try 'a pipe' 1 "$bad_list" "pipe$bad_words" "$hec1" pipe
+wait
+ln -s "$hec1" linked
+try 'the command by a link' 1 "$bad_list" "pond.hc1$bad_words" ./linked pond.hc1
+"$hec1" --help >"$scratch/help" 2>&1
+holds 'help' grep -q 'hec1 FILE' "$scratch/help"
+
+# ---- lines quoted
+
+# quote NUMBER LINE WORDS QUOTED DECK
+quote() {
+    input "$5"
+    try "the words of $5" 1 "REFUSED $1 $2\n" "-:$2: $3 (refusal $1): $4\n" "$hec1"
+}
+eighty=0123456789012345678901234567890123456789012345678901234567890123456789012345678
+quote 4 1 'unknown record or control' 'XX' 'XX'
+quote 4 2 'unknown record or control' 'XX' 'ID\r\nXX\r\nZZ\r\n'
+quote 4 3 'unknown record or control' '  KK A' '\n\n  KK A\n'
+quote 4 1 'unknown record or control' '%s \\\\n $x `y`' '%s \\\\n $x `y`\n'
+quote 3 1 'foreign byte in column 3' 'ID?POND' 'ID\tPOND\n'
+quote 3 1 'foreign byte in column 1' '???ID' '\0357\0273\0277ID\n'
+quote 3 2 'foreign byte in column 4' 'ID ?' 'ID\nID \0000\nZZ\n'
+quote 3 1 'foreign byte in column 3' 'ID?' 'ID\r\r\n'
+quote 3 1 'foreign byte in column 3' 'ID?X' 'ID\rX\r\n'
+quote 3 1 'foreign byte in column 3' 'ZZ?' 'ZZ\r'
+quote 3 1 'foreign byte in column 4' 'ID ???' 'ID \0033\0001\0002\n'
+quote 3 1 'foreign byte in column 5' 'ID ??' 'ID ?\0177\n'
+quote 3 1 'line of 82 bytes, over 80' "ID$(printf %.78s "$eighty")" "ID${eighty}A\n"
+quote 4 1 'unknown record or control' "XX$(printf %.78s "$eighty")" "XX$(printf %.78s "$eighty")\r\n"
+quote 9 6 'wrong set of records in the block of line 4' 'KK B' '*FREE\nIT 60,,,4\nKM\nKK A\nBA 1\nKK B\nZZ\n'
+quote 12 9 'K, X and N do not suit the interval in the block of line 6' 'ZZ end' \
+    '*FREE\nIT 60,,,4\nKK A\nQI 1\n\nKK B\nKM KK\nRM 1,0.5,0.2\nZZ end'
+head -c 60001 /dev/zero >long.hc1
+try 'a deck of 60,001 bytes' 1 'REFUSED 2 0\n' 'long.hc1: deck over 60,000 bytes (refusal 2)\n' "$hec1" long.hc1
+head -c 5000000 /dev/zero >long.hc1
+try 'a deck of 5,000,000 bytes' 1 'REFUSED 2 0\n' 'long.hc1: deck over 60,000 bytes (refusal 2)\n' "$hec1" long.hc1
+{ printf '%b' "$good"; head -c $((60000 - $(printf '%b' "$good" | wc -c))) /dev/zero; } >long.hc1
+try 'a deck of 60,000 bytes' 0 "$good_list" '' "$hec1" long.hc1
+printf 'x' >>long.hc1
+try 'one byte more' 1 'REFUSED 2 0\n' 'long.hc1: deck over 60,000 bytes (refusal 2)\n' "$hec1" long.hc1
+
+# ---- every refusal has its words, also those that the program cannot give
+
+cat >"$scratch/answers" <<'END'
+#!/bin/sh
+cat >/dev/null
+echo "REFUSED $ANSWER"
+END
+chmod +x "$scratch/answers"
+input 'ID\n'
+n=0
+while [ "$n" -lt 17 ]; do
+    n=$((n + 1))
+    ANSWER="$n 1" HEC1_PROGRAM="$scratch/answers" "$hec1" <"$scratch/in" >/dev/null 2>"$scratch/err"
+    holds "words of refusal $n" grep -q "^-:1: [a-zA-Z0-9 ,]* (refusal $n): ID\$" "$scratch/err"
+    holds "words of refusal $n are known" sh -c '! grep -q "does not know" "$1"' sh "$scratch/err"
+done
+printf '#!/bin/sh\nexit 3\n' >"$scratch/broken"
+chmod +x "$scratch/broken"
+HEC1_PROGRAM_SAVED=$HEC1_PROGRAM
+HEC1_PROGRAM=$scratch/broken
+try 'a program that fails' 2 '' 'hec1: -: the program ended with status 3 and gave no listing\n' "$hec1"
+HEC1_PROGRAM=$HEC1_PROGRAM_SAVED
+
+# ---- bundles
+
+input ''
+try 'a bundle of files' 1 "$good_list--\n$bad_list--\nREFUSED 16 0\n--\n" '' "$hec1" --bundle good.hc1 pond.hc1 open.hc1
+try 'a bundle of good files' 0 "$good_list--\n$good_list--\n" '' "$hec1" --bundle -- good.hc1 good.hc1
+try 'a bundle with a long deck' 1 "REFUSED 2 0\n--\n$good_list--\n" '' "$hec1" --bundle long.hc1 good.hc1
+try 'a bundle with a missing file' 2 '' 'hec1: none.hc1: no such file\n' "$hec1" --bundle good.hc1 none.hc1
+try 'an empty bundle' 0 '' '' "$hec1" --bundle
+size=$(printf '%b' "$good" | wc -c)
+input "\\0$(printf %o "$size")\\0000\\0000\\0000$good\\0000\\0000\\0000\\0000"
+try 'a ready bundle' 1 "$good_list--\nREFUSED 16 0\n--\n" '' "$hec1" --bundle
+input "$good"
+try 'a bundle with standard input' 0 "$good_list--\n$good_list--\n" '' "$hec1" --bundle - good.hc1
+
+# ---- what docs/USERS.md says in its sentences
+
+# gives DECK LISTING: an accepted deck; refuses NUMBER LINE DECK: a refused one, whatever its words
+gives() {
+    input "$1"
+    try "the guide: $1" 0 "$2" '' "$hec1"
+}
+refuses() {
+    input "$3"
+    "$hec1" <"$scratch/in" >"$scratch/out" 2>/dev/null
+    printf 'REFUSED %s %s\n' "$1" "$2" >"$scratch/expected"
+    same "the guide: $3" "$scratch/expected" "$scratch/out"
+}
+free='*FREE\nIT 60,,,4\nKK A\n'
+gives '*FREE\r\nIT 60,,,4\r\nKK A\r\nQI 1,2\r\nZZ' "$good_list"
+gives '\n*FREE\n   \nIT 60,,,4\nKK A\nQI 1,2\n\nZZ\n' "$good_list"
+gives 'IT60                           4\nKKA\nQI   1.1    2.22\nZZ\n' 'A 2 0.00 2.22 2 199200000\nEND 1\n'
+gives 'IT60                           4\nKKA\nQI     12.5\nZZ\n' 'A 2 0.00 2.50 2 210000000\nEND 1\n'
+gives '*FREE\nIT 60,,,4\nKK A\n*FIX\nQI     1       2\nZZ\n' "$good_list"
+gives "${free}QI 1 , 2 ,,\nZZ\n" "$good_list"
+gives "${free}QI 1,,2\nZZ\n" 'A 2 0.00 2.00 3 180000000\nEND 1\n'
+gives "${free}QI +1,2.\nZZ\n" "$good_list"
+gives "${free}QI .5,0.50\nZZ\n" 'A 2 0.00 0.50 1 60000000\nEND 1\n'
+gives "${free}QI 0000001.5\nZZ\n" 'A 2 0.00 1.50 1 90000000\nEND 1\n'
+refuses 6 4 "${free}QI 00000001.50\nZZ\n"
+refuses 6 4 "${free}QI 1.500\nZZ\n"
+refuses 6 4 "${free}QI 1E2\nZZ\n"
+gives "${free}BA 1\nPI\nLU\nUI 10\nZZ\n" 'A 1 1.00 0.00 1 0\nEND 1\n'
+gives "${free}QI\nZZ\n" 'A 2 0.00 0.00 1 0\nEND 1\n'
+gives "${free}QI 1\nKK A\nQI 1\nKK A\nHC 2\nZZ\n" 'A 2 0.00 1.00 1 60000000\nA 2 0.00 1.00 1 60000000\nA 3 0.00 2.00 1 120000000\nEND 3\n'
+gives "${free}BA 1.5\nQI 1,2\nZZ\n" 'A 2 1.50 2.00 2 180000000\nEND 1\n'
+gives "${free}BA 1\nPI 2\nLU\nUI 50000\nZZ\n" 'A 1 1.00 100000.00 1 6000000000000\nEND 1\n'
+refuses 6 4 "${free}HC 2,0\n"
+refuses 6 3 '*FREE\nIT 60,,,4\nKK SEVENTH\n'
+refuses 6 2 'IT    60                       4\nKK RED RI\n'
+refuses 4 1 'kk a\n'
+refuses 4 1 '*FREE form\n'
+refuses 4 1 ' ID\n'
+refuses 5 4 "${free}ID\n"
+refuses 5 4 "${free}IT 60,,,4\n"
+refuses 5 5 "${free}BA 1\nBA 1\n"
+refuses 9 6 "${free}BA 1\nHC 2\nZZ\n"
+# a chain of routings with equal K/N has the ordinates of one routing, each of them
+chain='*FREE\nIT 120,,,40\nKK A\nQI 0,500,900,400,100\n'
+printf '%b' "${chain}KK R\nRM 4,20,0.1\nZZ\n" | "$second" --full --named 2 | sed -n 2p >"$scratch/expected"
+printf '%b' "${chain}KK R\nRM 2,10,0.1\nKK R\nRM 2,10,0.1\nZZ\n" | "$second" --full --named 3 | sed -n 2p >"$scratch/got"
+same 'the guide: a chain of two' "$scratch/expected" "$scratch/got"
+printf '%b' "${chain}KK R\nRM 1,5,0.1\nKK R\nRM 3,15,0.1\nZZ\n" | "$second" --full --named 3 | sed -n 2p >"$scratch/got"
+same 'the guide: a chain of one step and three' "$scratch/expected" "$scratch/got"
+
+# ---- the transcripts of docs/USERS.md
+
+# A block 'deck NAME' is that file. A block 'console' has commands behind '$ ' and what each prints, both outputs together.
+guide=$scratch/guide
+mkdir "$guide" "$scratch/steps" && cd "$guide" || exit 2
+ln -s "$root/hec1" hec1
+ln -s "$root/target" target
+ln -s "$root/examples" examples
+awk -v steps="$scratch/steps" '
+    /^```deck / { deck = $2; next }
+    /^```console$/ { console = 1; block++; next }
+    /^```/ { deck = ""; console = 0; next }
+    deck != "" { print >deck; next }
+    console && /^\$ / {
+        n++
+        base = sprintf("%s/%03d", steps, n)
+        print block >(base ".block")
+        print substr($0, 3) >(base ".command")
+        printf "" >(base ".expected")
+        close(base ".block"); close(base ".command")
+        next
+    }
+    console { print >(base ".expected") }' "$root/docs/USERS.md"
+block="" last=0
+for command in "$scratch"/steps/*.command; do
+    base=${command%.command}
+    # a block's commands share the last exit status, as in a shell
+    if [ "$(cat "$base.block")" != "$block" ]; then last=0; fi
+    block=$(cat "$base.block")
+    { echo "(exit $last)"; cat "$command"; } >"$scratch/script"
+    sh "$scratch/script" </dev/null >"$base.got" 2>&1
+    last=$?
+    same "docs/USERS.md: $(cat "$command")" "$base.expected" "$base.got"
+done
+n=0
+while [ "$n" -lt 17 ]; do
+    n=$((n + 1))
+    cat "$scratch"/steps/*.got | grep -q "REFUSED $n [0-9]" || { failed=$((failed + 1)); echo "FAILED: docs/USERS.md does not provoke refusal $n"; continue; }
+    passed=$((passed + 1))
+done
+
+# ---- the decks of examples/
+
+cd "$root" || exit 2
+find examples -name '*.hc1' | sort >"$scratch/examples"
+holds 'there are examples' test -s "$scratch/examples"
+while IFS= read -r deck; do
+    "$hec1" "$deck" >"$scratch/got" 2>"$scratch/err" </dev/null
+    same "$deck" "${deck%.hc1}.listing" "$scratch/got"
+done <"$scratch/examples"
+
+# ---- how the program is built, with a stand-in for the kit that counts its runs
+
+kit=$scratch/kit
+repository="$scratch/a repository"
+mkdir -p "$kit/bin" "$kit/on/$(uname -m)/toolchain/lib" "$repository/crates/hec1/src"
+cp "$root/hec1" "$repository/"
+echo 'hec1:' >"$repository/crates.txt"
+echo '// a source' >"$repository/crates/hec1/src/main.rt"
+cat >"$kit/bin/rt" <<'END'
+#!/bin/sh
+echo "$*" >>"$RUNS"
+sleep 1
+if [ -f fault ]; then
+    echo 'what was wrong'
+    exit 1
+fi
+mkdir -p target/bin
+case $2 in bundle) option=--bundle ;; *) option= ;; esac
+printf '#!/bin/sh\nexec "%s" %s\n' "$SECOND" "$option" >"target/bin/$2"
+chmod +x "target/bin/$2"
+END
+printf '#!/bin/sh\nshift 2\nexec "$@"\n' >"$kit/on/$(uname -m)/toolchain/lib/ld-linux-x86-64.so.2"
+chmod +x "$kit/bin/rt" "$kit/on/$(uname -m)/toolchain/lib/ld-linux-x86-64.so.2"
+RUNS=$scratch/runs SECOND=$second RATTLE_HOME=$kit PATH=$kit/bin:$PATH HEC1_PROGRAM=
+export RUNS SECOND RATTLE_HOME PATH HEC1_PROGRAM
+: >"$RUNS"
+runs() { [ "$(grep -c . "$RUNS")" = "$1" ]; }
+cd "$place" || exit 2
+hec1=$repository/hec1
+input ''
+"$hec1" good.hc1 >"$scratch/got" 2>"$scratch/err"
+holds 'first use: status' test $? = 0
+printf '%b' "$good_list" >"$scratch/expected"
+same 'first use: listing' "$scratch/expected" "$scratch/got"
+printf '%s\n' 'hec1: proving and building hec1, which takes a while (log: target/command/hec1.log)' \
+    'hec1: hec1 is proved and built (N s)' >"$scratch/expected"
+sed 's/([0-9]* s)/(N s)/' "$scratch/err" >"$scratch/got"
+same 'first use: words' "$scratch/expected" "$scratch/got"
+holds 'first use: one run of rt' runs 1
+try 'second use' 0 "$good_list" '' "$hec1" good.hc1
+holds 'second use: no run of rt' runs 1
+input "$bad"
+try 'second use, standard input' 1 "$bad_list" "-$bad_words" "$hec1"
+input ''
+touch "$repository/crates/hec1/src/main.rt"
+"$hec1" good.hc1 >/dev/null 2>&1
+holds 'a source is newer: built again' runs 2
+touch "$repository/crates.txt"
+"$hec1" good.hc1 >/dev/null 2>&1
+holds 'crates.txt is newer: built again' runs 3
+try 'and then no more' 0 "$good_list" '' "$hec1" good.hc1
+holds 'and then no more: runs' runs 3
+echo '// another' >"$repository/crates/hec1/src/new.rt"
+: >"$repository/fault"
+"$hec1" good.hc1 >"$scratch/out" 2>"$scratch/err"
+holds 'a build that fails: status' test $? = 2
+holds 'a build that fails: no listing' test ! -s "$scratch/out"
+holds 'a build that fails: the log' grep -q '^what was wrong$' "$scratch/err"
+rm "$repository/fault"
+"$hec1" good.hc1 >"$scratch/got" 2>/dev/null
+holds 'the next build: status' test $? = 0
+holds 'the next build: runs' runs 5
+"$hec1" --bundle good.hc1 >"$scratch/got" 2>/dev/null
+printf '%b--\n' "$good_list" >"$scratch/expected"
+same 'the program for bundles is built too' "$scratch/expected" "$scratch/got"
+holds 'the program for bundles: by its name' test "$(tail -n 1 "$RUNS")" = 'check bundle'
+if command -v flock >/dev/null 2>&1; then
+    rm -r "$repository/target"
+    for one in 1 2 3; do "$hec1" good.hc1 >"$scratch/got$one" 2>/dev/null & done
+    wait
+    printf '%b' "$good_list" >"$scratch/expected"
+    for one in 1 2 3; do same "three first uses at once: $one" "$scratch/expected" "$scratch/got$one"; done
+    holds 'three first uses at once: one build' runs 7
+fi
+mkdir "$scratch/nothing"
+for tool in sh awk sed cat env find head tail tr mktemp rm readlink dirname uname grep date cp mv touch mkdir wc; do
+    at=$(command -v "$tool") && ln -s "$at" "$scratch/nothing/$tool"
+done
+RATTLE_HOME=
+everything=$PATH
+# shellcheck disable=SC2123
+PATH=$scratch/nothing
+"$hec1" good.hc1 >"$scratch/out" 2>"$scratch/err"
+ended=$?
+PATH=$everything
+echo 'hec1: the Rattle kit is missing: there is no command rt' >"$scratch/expected"
+same 'without the kit' "$scratch/expected" "$scratch/err"
+holds 'without the kit: status' test "$ended" = 2
+
+echo "$passed passed, $failed failed"
+[ "$failed" -eq 0 ]
