@@ -3,3 +3,4 @@ pub mod Open
 pub mod Lists
 pub mod Taking
 pub mod Kinds
+pub mod Unique

@@ -1,2 +1,3 @@
 -- What the code's tables and rules mean.
 pub mod Tables
+pub mod Unique
