@@ -2,30 +2,31 @@
 --     named-more, named-next, named-last    the hydrograph of the named block as results come in
 --     ordinatesFor      the ordinates that some results leave: zeros until the named block is closed
 --     Carried           ordinates and records, with carried-none, carried-more, and, at an accepted end, carried-named and carried-last
---     HeldAfter         what is held after so many blocks, with held-none, held-more, held-within
+--     HeldAfter         what is held after so many blocks, with held-none, held-more, held-within; depth-after, last-flow
 use Prim.Native.Nat.{ℕ, zero, suc, _+_, _-_, _*_, _≤_, _<_, zero-le}
-use mathlib.Core.Path.{_≡_, refl, sym, ap, subst, _∙_}
+use mathlib.Core.Path.{_≡_, refl, sym, ap, _∙_}
 use mathlib.Core.Bool.{Bool, true, false, _&&_, and-false}
-use mathlib.Core.Logic.{_⊎_, inl, inr, ⊎-elim}
+use mathlib.Core.Logic.{_⊎_, ⊎-elim}
 use mathlib.Core.List.{List, [], _∷_, _++_}
 use native.Mathlib.Omega.{arith}
 use borrow.Author.Tests.{ne-eqb, eqb-true, eqb-false, le-leb, lt-leb}
-use lib.ListN.{length, drop, getD, replicate, length-append, length-replicate}
+use lib.ListN.{length, getD, replicate, length-append, length-replicate}
 use Rattle.sequences.specs.Choices.{taken, passed, below-or-not}
-use Rattle.sequences.specs.Parts.{put}
+use Rattle.sequences.specs.Parts.{part, put}
 use Rattle.sequences.specs.Zeros.{drop-replicate}
 use Rattle.meaning.specs.Words.{_=?_, _≤?_, if_then_else_}
 use Rattle.meaning.specs.Blocks.{Time, Block, Held, total}
 use Rattle.meaning.specs.Results.{Result, recordOf}
-use Rattle.meaning.specs.Run.{flowsOf, namedFlow}
+use Rattle.meaning.specs.Run.{heldFor, heldAfter, flowsOf, namedFlow}
 use Rattle.stack.specs.declared.Stack.{Stack}
-use Rattle.stack.specs.View.{Fits, view, noneHeld}
+use Rattle.stack.specs.View.{Fits, view, noneHeld, length-held}
 use Rattle.stack.specs.Limits.{Within}
 use Rattle.results.specs.Records.{Named, Each, each-more, recordsIn, no-records, record-more}
 use Rattle.closing.specs.declared.Finished.{Finished}
-use Rattle.closing.specs.Forming.{HeldWithin}
+use Rattle.forming.specs.Forming.{HeldWithin}
+use Rattle.closing.specs.Holding.{view-last}
 use Rattle.closing.specs.Closing.{Keeps}
-use Rattle.closing.specs.Finishing.{recordPut, copiedFirst, copiedNamed, recordsAfter, ordinatesAfter, resultOf, Finishes}
+use Rattle.closing.specs.Finishing.{copiedFirst, copiedNamed, recordsAfter, ordinatesAfter, resultOf, Finishes}
 
 -- THE NAMED BLOCK
 flow-more : (rs : List Result) (r : Result) (i : ℕ) → i < length rs → getD (flowsOf (rs ++ (r ∷ []))) i [] ≡ getD (flowsOf rs) i []
@@ -188,6 +189,14 @@ held-more τ b k s next w w′ before long keeps =
       flows = keeps .flows;
       areas = omega (arith, keeps .areas, before .areas);
     }
+
+-- how many are held, and the flow of the last of them
+module _ (τ : Time) (b : Block) (before : List Held) (next : Stack) (w : List ℕ) (keeps : Keeps τ b before next w) where
+  pub depth-after : length (heldAfter τ b before) ≡ next .depth
+  depth-after = sym (ap length (keeps .held)) ∙ length-held (τ .ordinates) (next .areas) (next .depth) w
+
+  pub last-flow : part (300 * (next .depth - 1)) (τ .ordinates) w ≡ heldFor τ b before .flow
+  last-flow = view-last next (τ .ordinates) w (keeps .held) .flow
 
 pub held-within : (k : ℕ) (s : Stack) (nq : ℕ) (w : List ℕ) → k ≤ 199 → HeldAfter k s nq w → HeldWithin s nq w
 held-within k s nq w few h = record { fits = h .fits; flows = h .flows; areas = omega (arith, h .areas) }

@@ -1,29 +1,25 @@
 -- A block closed: the answer, and what is held then.
 --     answerBy     the answer, told by the refusal
---     Closable     what is asked of the open block, the time control and what is held
 --     Closes       the outcome: the answer and the words; and of what is held then, Keeps
-use Prim.Native.Nat.{ℕ, zero, suc, _+_, _-_, _≤_, _<_}
+use Prim.Native.Nat.{ℕ, zero, suc, _+_, _≤_, _<_}
 use mathlib.Core.Path.{_≡_, refl, sym, ap, subst, _∙_}
 use mathlib.Core.List.{List}
 use native.Mathlib.Omega.{arith}
 use borrow.Author.Tests.{lt-ltb, le-ltb}
 use lib.ListN.{length, length-drop}
-use Rattle.meaning.specs.Words.{first, met}
 use Rattle.meaning.specs.Water.{flowLimit}
 use Rattle.meaning.specs.Blocks.{Time, Block, Kind, kindNumber, kindOf, takes, Held, total}
 use Rattle.meaning.specs.Results.{peakOf}
 use Rattle.meaning.specs.Run.{heldFor, heldAfter, shapeRefusal, flowRefusal, closingRefusal}
 use Rattle.limits.specs.Within as limits
-use Rattle.blocks.specs.Open.{blockOf, timeOf, Kept}
-use Rattle.blocks.specs.declared.Open.{Open}
 use Rattle.stack.specs.declared.Stack.{Stack}
 use Rattle.stack.specs.View.{view, length-held}
 use Rattle.stack.specs.Limits.{Within}
 use Rattle.results.specs.declared.Summary.{Summary}
 use Rattle.results.specs.Summary.{summaryOf}
 use Rattle.closing.specs.declared.Closed.{Closed}
-use Rattle.closing.specs.declared.Formed.{Formed}
-use Rattle.closing.specs.Forming.{stackBy, stackAfter, wordsAfter, HeldWithin, Forms}
+use Rattle.forming.specs.declared.Formed.{Formed}
+use Rattle.forming.specs.Forming.{stackBy, stackAfter, wordsAfter, Forms}
 use Rattle.closing.specs.Holding.{Last, view-last, room-left, area-after, within-after}
 
 abbrev pub refusedBlock : ℕ → Stack → Closed
@@ -35,12 +31,6 @@ closedBlock k b s h = record { refusal = 0; held = stackBy k b s; kind = kindNum
 abbrev pub answerBy : (refusal : ℕ) → Kind → Block → Stack → Held → Closed
 answerBy zero k b s h = closedBlock k b s h
 answerBy (suc n) k b s h = refusedBlock (suc n) s
-
-pub record Closable (minutes nq : ℕ) (o : Open) (rain units flow : List ℕ) (s : Stack) (w : List ℕ) : Type 0 where
-  pub time : limits.TimeWithin (timeOf minutes nq)
-  pub block : limits.Within (blockOf o rain units flow)
-  pub kept : Kept o nq rain units flow
-  pub held : HeldWithin s nq w
 
 -- what is held then, with its limits
 pub record Keeps (τ : Time) (b : Block) (before : List Held) (next : Stack) (w : List ℕ) : Type 0 where

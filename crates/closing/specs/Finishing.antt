@@ -1,5 +1,5 @@
 -- A block finished: closed, and its result written where there is room for it.
---     recordAfter, copiedFirst, ordinatesAfter     the records and the ordinates then
+--     recordsAfter, ordinatesAfter                 the records and the ordinates then
 --     Finishes                                     the outcome
 --     finishes-refused, finishes-written           how it comes about
 use Prim.Native.Nat.{ℕ, zero, suc, _+_, _-_, _*_}
@@ -8,7 +8,7 @@ use mathlib.Core.List.{List, _++_}
 use lib.ListN.{length, drop}
 use Rattle.sequences.specs.Parts.{part, put}
 use Rattle.meaning.specs.Words.{_=?_, _≤?_, if_then_else_}
-use Rattle.meaning.specs.Blocks.{Time, Block, Kind, kindOf}
+use Rattle.meaning.specs.Blocks.{Time, Block, kindOf}
 use Rattle.meaning.specs.Results.{Result, recordOf}
 use Rattle.meaning.specs.Run.{heldFor, shapeRefusal, closingRefusal}
 use Rattle.stack.specs.declared.Stack.{Stack}
@@ -16,7 +16,7 @@ use Rattle.stack.specs.View.{view}
 use Rattle.results.specs.Record.{recordBytes, record-of}
 use Rattle.closing.specs.declared.Closed.{Closed}
 use Rattle.closing.specs.declared.Finished.{Finished}
-use Rattle.closing.specs.Forming.{stackAfter, wordsAfter}
+use Rattle.forming.specs.Forming.{stackAfter, wordsAfter}
 use Rattle.closing.specs.Holding.{view-last}
 use Rattle.closing.specs.Closing.{Keeps, Closes, closedBlock, answer-number, answer-held, answer-none}
 

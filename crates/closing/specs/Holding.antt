@@ -4,13 +4,13 @@
 --     flow-within      before 13 is tested: so far that its ordinates still add up in a word
 --     area-after       a block adds at most one card's area
 --     within-after     every flow is within the limit again, where that of the new one is
-use Prim.Native.Nat.{ℕ, zero, suc, _+_, _-_, _*_, _≤_, _<_, zero-le}
-use mathlib.Core.Path.{_≡_, refl, sym, ap, subst, _∙_}
+use Prim.Native.Nat.{ℕ, zero, suc, _+_, _-_, _*_, _≤_, _<_}
+use mathlib.Core.Path.{_≡_, refl, sym, ap, _∙_}
 use mathlib.Core.Bool.{Bool, true, false}
 use mathlib.Core.List.{List, [], _∷_}
 use native.Mathlib.Omega.{arith}
 use borrow.Author.Tests.{leb-false}
-use lib.ListN.{length, take, drop, getD}
+use lib.ListN.{length, getD}
 use Rattle.sequences.specs.Bounds.{AllUpTo}
 use Rattle.sequences.specs.Parts.{part, length-part}
 use Rattle.meaning.specs.Words.{_=?_, _≤?_, _<?_, met, first}
@@ -23,12 +23,12 @@ use Rattle.routing.specs.Soundness as routing
 use Rattle.routing.specs.Soundness.{routable}
 use Rattle.runoff.specs.Limits.{runoff-within, inflow-within}
 use Rattle.stack.specs.declared.Stack.{Stack}
-use Rattle.stack.specs.View.{Fits, heldOf, heldIn, view, routedHeld}
+use Rattle.stack.specs.View.{Fits, heldOf, heldIn, view}
 use Rattle.stack.specs.Limits.{Within, within-drop, total-within, within-routed, area-added, area-routed}
 use Rattle.stack.specs.Kinds.{after-basin, after-inflow, after-confluence, after-reach}
 use Rattle.results.specs.Peaks.{all-below-peak}
-use Rattle.closing.specs.Given.{block-has}
-use Rattle.closing.specs.Shapes.{shape-none, shape-reach}
+use Rattle.forming.specs.Given.{block-has}
+use Rattle.forming.specs.Shapes.{shape-none, shape-reach}
 
 -- THE LAST HELD
 pub record Last (s : Stack) (nq : ℕ) (w : List ℕ) (h : Held) : Type 0 where

@@ -1,7 +1,4 @@
--- What closing a block leaves, and its laws.
-pub mod Shapes
-pub mod Given
-pub mod Forming
+-- What closing and finishing a block leaves, what the run carries from block to block, and the laws of both.
 pub mod Holding
 pub mod Closing
 pub mod Finishing

@@ -8,7 +8,7 @@ use Rattle.meaning.specs.Blocks.{Time, Block, kindOf}
 use Rattle.stack.specs.declared.Stack.{Stack}
 use Rattle.closing.specs.declared.Closed.{Closed}
 use Rattle.closing.specs.declared.Finished.{Finished}
-use Rattle.closing.specs.Forming.{stackAfter}
+use Rattle.forming.specs.Forming.{stackAfter}
 use Rattle.closing.specs.Closing.{Closes}
 use Rattle.closing.specs.Finishing.{copiedFirst, recordsAfter, ordinatesAfter, resultOf, Finishes}
 

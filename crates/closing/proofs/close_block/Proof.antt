@@ -1,6 +1,6 @@
 -- `closing::close_block` meets its contract: the block is formed, and each way out is a law of blocks formed.
-use Prim.Native.Nat.{ℕ, _<_, _≤_}
-use mathlib.Core.Path.{_≡_, refl, sym, ap, subst, _∙_}
+use Prim.Native.Nat.{ℕ, _≤_}
+use mathlib.Core.Path.{_≡_, sym, ap, subst, _∙_}
 use mathlib.Core.List.{List}
 use native.Mathlib.Omega.{arith}
 use lib.ListN.{length}
@@ -8,7 +8,7 @@ use Rattle.sequences.specs.Bounds.{AllUpTo}
 use Rattle.blocks.specs.Open.{blockOf, timeOf}
 use Rattle.stack.specs.View.{Fits, view, length-held}
 use Rattle.results.specs.Summary.{summaryOf}
-use Rattle.closing.specs.Given.{units-few}
+use Rattle.forming.specs.Given.{units-few}
 use Rattle.closing.specs.Holding.{flow-within}
 use Rattle.closing.specs.Closing.{closes-by-shape, formed-last, formed-sound, formed-deep, closes-by-flow, closes-held}
 use borrow.Author.Needs.{needs}

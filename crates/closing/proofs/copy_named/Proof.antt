@@ -1,6 +1,6 @@
 -- `closing::copy_named` meets its contract: by whether the block is the one named.
 use Prim.Native.Nat.{_+_}
-use mathlib.Core.Path.{_≡_, refl}
+use mathlib.Core.Path.{refl}
 use borrow.Author.Tests.{eq-eqb, ne-eqb}
 use Rattle.sequences.specs.Choices.{taken, passed}
 use borrow.Author.Needs.{needs}

@@ -1,5 +1,5 @@
 -- `closing::finish_block` meets its contract: the block is closed, and each way out is a law of blocks closed.
-use mathlib.Core.Path.{_≡_, refl}
+use mathlib.Core.Path.{_≡_}
 use native.Mathlib.Omega.{arith}
 use lib.ListN.{length}
 use Rattle.blocks.specs.Open.{blockOf, timeOf}

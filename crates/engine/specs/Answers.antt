@@ -1,0 +1,66 @@
+-- The answer of the run as the meaning of a run has it, with what was lent.
+--     answerIs, outcomeIs, lentAs     the answer, what comes back, and the lengths of what was lent
+--     refused-as, accepted-as         the outcome where the deck is refused and where it is accepted
+use Prim.Native.Nat.{ℕ, _+_, _-_, _*_, _≤_}
+use mathlib.Core.Path.{_≡_, refl, sym, ap, _∙_}
+use mathlib.Core.Bool.{Bool, true, false, _||_, false≢true}
+use mathlib.Core.List.{List, _++_}
+use borrow.Author.Tests.{ltb-false}
+use lib.ListN.{length, replicate}
+use Rattle.meaning.specs.Words.{_<?_}
+use Rattle.meaning.specs.Blocks.{Time}
+use Rattle.meaning.specs.Results.{Result}
+use Rattle.meaning.specs.Run as run
+use Rattle.meaning.specs.Run.{Outcome, Lent, refused, accepted, noRoom, outcome}
+use Rattle.engine.specs.declared.Answer.{Answer}
+use Rattle.engine.specs.declared.Answer.the-variants as answer
+use Rattle.engine.specs.Standing.{DoneIs}
+use Rattle.engine.specs.Outcomes.{short-lent, all-room}
+
+abbrev pub answerIs : Answer → run.Answer
+answerIs (answer.Accepted nq blocks) = run.Accepted nq blocks
+answerIs (answer.Refused number line) = run.Refused number line
+
+abbrev pub outcomeIs : Answer → (work ordinates records : List ℕ) → Outcome
+outcomeIs a work ordinates records = record { answer = answerIs a; work = work; ordinates = ordinates; records = records }
+
+abbrev pub lentAs : (work ordinates records : List ℕ) → Lent
+lentAs work ordinates records = record { work = length work; ordinates = length ordinates; records = length records }
+
+neither : (s t : Bool) → (s || t) ≡ false → (s ≡ false) × (t ≡ false)
+neither true t h = absurd (false≢true (sym h))
+neither false t h = (refl, h)
+
+-- what was lent is too short for so many ordinates and blocks, or the named block is above the count
+abbrev pub lacking : (nq blocks named ordinates records : ℕ) → Bool
+lacking nq blocks named ordinates records = (ordinates <? nq) || (records <? 32 * blocks) || (blocks <? named)
+
+enough-room : (nq blocks named ordinates records : ℕ) → lacking nq blocks named ordinates records ≡ false → (nq ≤ ordinates) × (32 * blocks ≤ records) × (named ≤ blocks)
+enough-room nq blocks named ordinates records h =
+    let a = neither ((ordinates <? nq) || (records <? 32 * blocks)) (blocks <? named) h in
+    let b = neither (ordinates <? nq) (records <? 32 * blocks) (a .0) in
+    (ltb-false ordinates nq (b .0), ltb-false records (32 * blocks) (b .1), ltb-false blocks named (a .1))
+
+module _ (deck : List ℕ) (named : ℕ) (work ordinates records work′ ordinates′ records′ : List ℕ)
+    (lw : length work′ ≡ length work) (lo : length ordinates′ ≡ length ordinates) (lr : length records′ ≡ length records) where
+  pub refused-as : (o : Outcome) (number line : ℕ) → o ≡ refused number line (lentAs work′ ordinates′ records′)
+      → refused number line (lentAs work ordinates records) ≡ outcome deck named (lentAs work ordinates records) → o ≡ outcome deck named (lentAs work ordinates records)
+  refused-as o number line e f = e ∙ rw (lw, lo, lr) f
+
+  module _ (nq blocks : ℕ) (enough : 6_000 ≤ length work) (short : length deck ≤ 60_000) (d : DoneIs deck named (length ordinates) (length records) nq blocks ordinates′ records′) where
+    room-is : noRoom named (d .time) (d .results) (lentAs work ordinates records) ≡ lacking nq blocks named (length ordinates′) (length records′)
+    unfolding noRoom
+    room-is = rw (lo, lr, d .ordinates-are, d .blocks-are)
+
+    pub short-as : lacking nq blocks named (length ordinates′) (length records′) ≡ true → refused 17 0 (lentAs work ordinates records) ≡ outcome deck named (lentAs work ordinates records)
+    short-as h = short-lent deck named (lentAs work ordinates records) enough short (d .time) (d .results) (d .done) (room-is ∙ h)
+
+    pub accepted-as : lacking nq blocks named (length ordinates′) (length records′) ≡ false
+        → outcomeIs (answer.Accepted nq blocks) (replicate (length work′) 0) ordinates′ records′ ≡ outcome deck named (lentAs work ordinates records)
+    accepted-as h =
+        let room = enough-room nq blocks named (length ordinates) (length records) (rw (lo, lr) at h) in
+        let known : named ≤ length (d .results) = rw (d .blocks-are) (room .2) in
+        let told : 32 * length (d .results) ≤ length records = rw (d .blocks-are) (room .1) in
+        let same : outcomeIs (answer.Accepted nq blocks) (replicate (length work′) 0) ordinates′ records′ ≡ accepted named (d .time) (d .results) (lentAs work ordinates records) =
+        rw (lw, d .flow known (room .0), d .told told, d .ordinates-are, d .blocks-are) in
+        same ∙ all-room deck named (lentAs work ordinates records) enough short (d .time) (d .results) (d .done) (room-is ∙ h)

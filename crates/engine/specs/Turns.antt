@@ -1,0 +1,34 @@
+-- The turns of the run that its small functions make.
+use Prim.Native.Nat.{ℕ, _+_}
+use mathlib.Core.Path.{_≡_}
+use mathlib.Core.Bool.{true, false}
+use Rattle.reading.specs.declared.Reading.{Reading}
+use Rattle.reading.specs.declared.Name.{Name}
+use Rattle.stack.specs.declared.Stack.{Stack}
+use Rattle.stack.specs.View.{noneHeld}
+use Rattle.engine.specs.Readings.{Begins, Opens}
+use Rattle.engine.specs.declared.State.{State}
+use Rattle.engine.specs.declared.Worked.{Worked}
+use Rattle.engine.specs.declared.Turn.{Turn}
+
+pub record StateBegins (s : State) : Type 0 where
+  pub reading : Begins (s .reading)
+  pub held : s .held ≡ noneHeld
+  pub at : s .at ≡ 0
+  pub line : s .line ≡ 0
+  pub blocks : s .blocks ≡ 0
+
+pub record Stops (number line : ℕ) (t : Turn) : Type 0 where
+  pub ended : t .ended ≡ true
+  pub worked : t .worked ≡ record { refused = true; number = number; line = line; nq = 0; blocks = 0 }
+
+pub record GoesOn (r : Reading) (held : Stack) (name : Name) (at line blocks : ℕ) (t : Turn) : Type 0 where
+  pub ended : t .ended ≡ false
+  pub reading : Opens r name (t .state .reading)
+  pub holds : t .state .held ≡ held
+  pub place : t .state .at ≡ at
+  pub lines : t .state .line ≡ line
+  pub count : t .state .blocks ≡ blocks + 1
+
+abbrev pub workedWell : ℕ → ℕ → Worked
+workedWell nq blocks = record { refused = false; number = 0; line = 0; nq = nq; blocks = blocks }
