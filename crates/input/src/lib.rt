@@ -1,0 +1,71 @@
+// Standard input as bundles hold it: numbers of 4 bytes, and decks of a known length.
+ghost use mathlib.Core.Path.{_≡_};
+ghost use Prim.Native.Nat.{_≤_, _<_, min};
+ghost use Rattle.input.specs.Kept.{Kept};
+use libc::STDIN_FILENO;
+
+pub enum Next {
+    Number(usize),
+    End,
+}
+
+fn wide(b: u8) -> usize
+    ensures { λ r. ⌜ r < 256 ⌝ }
+{
+    b as usize
+}
+
+// A number in 4 bytes, the lowest first.
+pub fn read_number() -> Next {
+    let mut b = [0u8; 4];
+    if io::read_full(STDIN_FILENO, &mut b) < 4 {
+        return Next::End;
+    }
+    Next::Number(wide(b[0]) + 256 * (wide(b[1]) + 256 * (wide(b[2]) + 256 * wide(b[3]))))
+}
+
+fn least(a: usize, b: usize) -> usize
+    ensures { λ r. ⌜ r ≡ min a b ⌝ }
+{
+    if a < b { a } else { b }
+}
+
+// Fills a slice; answers whether the input had so many bytes.
+fn fill(s: &mut [u8]) -> bool {
+    io::read_full(STDIN_FILENO, s) == s.len()
+}
+
+// Reads past some of the next bytes, `most` at most, and answers how many: 0 only where the input ends.
+fn pass_some(most: usize) -> usize
+    ensures { λ r. ⌜ r ≤ most ⌝ }
+{
+    let mut past = io::large_buffer();
+    if most < 65_536 {
+        return io::read_full(STDIN_FILENO, &mut past[..most]);
+    }
+    io::read_full(STDIN_FILENO, &mut past)
+}
+
+// Reads past so many bytes; answers whether the input had them.
+fn pass(size: usize) -> bool {
+    let mut left = size;
+    while 0 < left {
+        let n = pass_some(left);
+        if n == 0 {
+            return false;
+        }
+        left -= n;
+    }
+    true
+}
+
+// The front of a deck of that size, as much as the slice holds; what stands behind it is read past. End where the input has no whole deck.
+pub fn read_deck(deck: &mut [u8], size: usize) -> Next
+    ensures { λ r. ⌜ Kept size (now (deck .exit)) r ⌝ }
+{
+    let kept = least(size, deck.len());
+    if fill(&mut deck[..kept]) && pass(size - kept) {
+        return Next::Number(kept);
+    }
+    Next::End
+}

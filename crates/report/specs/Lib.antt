@@ -1,0 +1,4 @@
+pub mod Counted
+pub mod Done
+pub mod Printed
+pub mod Unique

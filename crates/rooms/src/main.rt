@@ -1,0 +1,249 @@
+// Cases from standard input, each the named block, the work words, the ordinates, the record bytes and the deck's length, in 4 bytes each, and the deck.
+// Everything lent is filled with ones before a run. Of each: the answer, all ordinates, all record bytes, how many work words are not zero, and '--'.
+ghost use mathlib.Core.Path.{_≡_};
+ghost use Prim.Native.Nat.{_+_, _*_, _<_, _≤_};
+ghost use lib.ListN.{length};
+use engine::Answer;
+use input::Next;
+use libc::STDOUT_FILENO;
+
+fn put_byte(out: &mut [u8], at: usize, b: u8) -> usize
+    requires { ⌜ at < length (now out) ⌝ }
+    ensures { λ r. ⌜ r ≡ at + 1 ⌝ }
+{
+    out[at] = b;
+    at + 1
+}
+
+fn put_text(out: &mut [u8], at: usize, text: &[u8]) -> usize
+    requires { ⌜ at + length (now text) ≤ length (now out) ⌝ }
+    ensures { λ r. ⌜ r ≡ at + length (now (text .entry)) ⌝ }
+{
+    at + bytes::copy(text, &mut out[at..])
+}
+
+// The digits of a number at the end of the slice, the last one last; answers where they begin.
+fn spell(x: u64, digits: &mut [u8]) -> usize
+    ensures { λ r. ⌜ r ≤ length (now (digits .exit)) ⌝ }
+{
+    let mut rest = x;
+    let mut i = digits.len();
+    while 0 < i {
+        i -= 1;
+        digits[i] = b'0' + (rest % 10) as u8;
+        rest /= 10;
+        if rest == 0 {
+            return i;
+        }
+    }
+    i
+}
+
+fn put_number(out: &mut [u8], at: usize, x: u64) -> usize
+    requires { ⌜ at + 20 ≤ length (now out) ⌝ }
+    ensures { λ r. ⌜ r ≤ at + 20 ⌝ }
+{
+    let mut digits = [0u8; 20];
+    let first = spell(x, &mut digits);
+    put_text(out, at, &digits[first..])
+}
+
+fn put_answer(out: &mut [u8], answer: Answer) -> usize
+    requires { ⌜ 50 ≤ length (now out) ⌝ }
+    ensures { λ r. ⌜ r ≤ 50 ⌝ }
+{
+    match answer {
+        Answer::Accepted(ordinates, blocks) => {
+            let blank = put_number(out, 0, ordinates as u64);
+            let second = put_byte(out, blank, b' ');
+            let end = put_number(out, second, blocks as u64);
+            put_byte(out, end, b'\n')
+        }
+        Answer::Refused(number, line) => listing::write_refusal(&mut out[..50], number, line),
+    }
+}
+
+// A blank before each word but the first.
+fn put_gap(out: &mut [u8], at: usize, i: usize) -> usize
+    requires { ⌜ at < length (now out) ⌝ }
+    ensures { λ r. ⌜ r ≤ at + 1 ⌝ }
+{
+    if i == 0 {
+        return at;
+    }
+    put_byte(out, at, b' ')
+}
+
+fn put_words(out: &mut [u8], start: usize, words: &[u64]) -> usize
+    requires { ⌜ start + 21 * length (now words) + 1 ≤ length (now out) ⌝ }
+    ensures { λ r. ⌜ r ≤ start + 21 * length (now (words .entry)) + 1 ⌝ }
+{
+    let mut at = start;
+    let mut i = 0;
+    while i < words.len() {
+        let word = put_gap(out, at, i);
+        at = put_number(out, word, words[i]);
+        i += 1;
+    }
+    put_byte(out, at, b'\n')
+}
+
+fn hex_digit(d: u8) -> u8
+    requires { ⌜ d < 16 ⌝ }
+{
+    if d < 10 { b'0' + d } else { b'a' + (d - 10) }
+}
+
+fn put_hex(out: &mut [u8], at: usize, b: u8) -> usize
+    requires { ⌜ at + 2 ≤ length (now out) ⌝ }
+    ensures { λ r. ⌜ r ≡ at + 2 ⌝ }
+{
+    let low = put_byte(out, at, hex_digit(b / 16));
+    put_byte(out, low, hex_digit(b % 16))
+}
+
+fn put_bytes(out: &mut [u8], start: usize, s: &[u8]) -> usize
+    requires { ⌜ start + 2 * length (now s) + 1 ≤ length (now out) ⌝ }
+    ensures { λ r. ⌜ r ≡ start + 2 * length (now (s .entry)) + 1 ⌝ }
+{
+    let mut at = start;
+    let mut i = 0;
+    while i < s.len() {
+        at = put_hex(out, at, s[i]);
+        i += 1;
+    }
+    put_byte(out, at, b'\n')
+}
+
+fn count_left(words: &[u64]) -> u64 {
+    let mut n = 0;
+    let mut i = 0;
+    while i < words.len() {
+        if words[i] != 0 {
+            n += 1;
+        }
+        i += 1;
+    }
+    n
+}
+
+fn put_case(
+    out: &mut [u8],
+    answer: Answer,
+    work: &[u64],
+    ordinates: &[u64],
+    records: &[u8],
+) -> usize
+    requires { ⌜ 21 * length (now ordinates) + 2 * length (now records) + 76 ≤ length (now out) ⌝ }
+    ensures { λ r. ⌜ r ≤ length (now (out .exit)) ⌝ }
+{
+    let flows = put_answer(out, answer);
+    let hex = put_words(out, flows, ordinates);
+    let count = put_bytes(out, hex, records);
+    let end = put_number(out, count, count_left(work));
+    let mark = put_byte(out, end, b'\n');
+    put_text(out, mark, b"--\n")
+}
+
+fn print(out: &[u8], n: usize)
+    requires { ⌜ n ≤ length (now out) ⌝ }
+{
+    io::write_all(STDOUT_FILENO, &out[..n]);
+}
+
+fn run_case(deck: &[u8], named: usize, work: &mut [u64], ordinates: &mut [u64], records: &mut [u8])
+    requires { ⌜ (length (now ordinates) ≤ 600) × (length (now records) ≤ 16_000) ⌝ }
+{
+    let answer = engine::run(deck, named, work, ordinates, records);
+    let mut out = [0u8; 44_676];
+    let n = put_case(&mut out, answer, work, ordinates, records);
+    print(&out, n);
+}
+
+// What a case says before its deck.
+struct Case {
+    pub named: usize,
+    pub work: usize,
+    pub ordinates: usize,
+    pub records: usize,
+    pub size: usize,
+}
+
+fn lend(deck: &[u8], case: Case)
+    requires { ⌜ (case .work ≤ 12_000) × (case .ordinates ≤ 600) × (case .records ≤ 16_000) ⌝ }
+{
+    let w = case.work;
+    let q = case.ordinates;
+    let n = case.records;
+    let mut work = [1u64; 12_000];
+    let mut ordinates = [1u64; 600];
+    let mut records = [1u8; 16_000];
+    run_case(
+        deck,
+        case.named,
+        &mut work[..w],
+        &mut ordinates[..q],
+        &mut records[..n],
+    );
+}
+
+enum Asked {
+    Run(Case),
+    Nothing,
+}
+
+fn read_case() -> Asked {
+    let Next::Number(named) = input::read_number() else {
+        return Asked::Nothing;
+    };
+    let Next::Number(work) = input::read_number() else {
+        return Asked::Nothing;
+    };
+    let Next::Number(ordinates) = input::read_number() else {
+        return Asked::Nothing;
+    };
+    let Next::Number(records) = input::read_number() else {
+        return Asked::Nothing;
+    };
+    let Next::Number(size) = input::read_number() else {
+        return Asked::Nothing;
+    };
+    Asked::Run(Case {
+        named,
+        work,
+        ordinates,
+        records,
+        size,
+    })
+}
+
+// Answers whether there was a whole case that asks no more than can be lent.
+fn answer_next(deck: &mut [u8]) -> bool {
+    let Asked::Run(case) = read_case() else {
+        return false;
+    };
+    let Next::Number(kept) = input::read_deck(deck, case.size) else {
+        return false;
+    };
+    if 12_000 < case.work {
+        return false;
+    }
+    if 600 < case.ordinates {
+        return false;
+    }
+    if 16_000 < case.records {
+        return false;
+    }
+    lend(&deck[..kept], case);
+    true
+}
+
+// One byte more than a deck may have is kept: with it the deck is too long, whatever follows.
+// A proved loop has to end, and nothing says that the input does: no run uses up the turns.
+fn main() {
+    let mut deck = [0u8; 60_001];
+    let mut turns = u64::MAX;
+    while 0 < turns && answer_next(&mut deck) {
+        turns -= 1;
+    }
+}
