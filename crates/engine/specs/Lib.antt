@@ -10,3 +10,4 @@ pub mod Stepping
 pub mod Doing
 pub mod Starting
 pub mod Answers
+pub mod Unique
