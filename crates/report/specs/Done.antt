@@ -1,8 +1,8 @@
 -- A deck that is worked to its end: what it answers fits the room that is lent for it and the records of 32 bytes. Line by line.
 --     Fitting       of a time control and results: room for the ordinates, at most 200 results, each with its record
 --     done-fits     so is the end of every deck
-use Prim.Native.Nat.{ℕ, zero, suc, _+_, _*_, _^_, _≤_, _<_, max}
-use mathlib.Core.Path.{_≡_, refl, sym, ap, _∙_}
+use Prim.Native.Nat.{ℕ, zero, suc, _+_, _*_, _≤_, _<_, max}
+use mathlib.Core.Path.{_≡_, refl}
 use mathlib.Core.Bool.{Bool, true, false, not}
 use mathlib.Core.List.{List, [], _∷_, _++_}
 use native.Mathlib.Omega.{arith}
@@ -10,13 +10,13 @@ use borrow.Author.Tests.{ltb-false, leb-false}
 use lib.ListN.{length, take, drop, length-append}
 use Rattle.sequences.specs.Sums.{length-listFrom}
 use Rattle.meaning.specs.Words.{_=?_, _≤?_, _<?_, met, first}
-use Rattle.meaning.specs.Fields.{Fixed, Form, fieldsOf, nameIn}
+use Rattle.meaning.specs.Fields.{Fixed, fieldsOf, nameIn}
 use Rattle.meaning.specs.Lines.{linesOf}
-use Rattle.meaning.specs.Records.{Item, Record, ID, IT, KK, KM, ZZ, Control, Of}
+use Rattle.meaning.specs.Records.{Record, ID, IT, KK, KM, ZZ, Control, Of}
 use Rattle.meaning.specs.Water.{flowLimit, plus}
 use Rattle.meaning.specs.Blocks.{Time, Block, opened, Kind, NoKind, Basin, Inflow, Confluence, Reach, kindOf, takes, Held, total, made, madeBy, value1, value2, value3}
 use Rattle.meaning.specs.Results.{Result, peakOf}
-use Rattle.meaning.specs.Run.{Head, Faulty, Skipped, Holds, headOf, Reading, BeforeTime, BeforeBlocks, InBlock, Event, Refuse, Go, Open, End, unless, timeRefusal, timeOf, nameRefusal, itemRefusal, withItem, readRecord, readBy, readLine, heldFor, heldAfter, shapeRefusal, flowRefusal, closingRefusal, Standing, nothingYet, openRefusal, withResult, closed, oneMore, Worked, Stopped, Done, Step, Stop, Next, stepUnless, act, andThen, walk, worked}
+use Rattle.meaning.specs.Run.{Head, Faulty, Skipped, Holds, headOf, Reading, BeforeTime, BeforeBlocks, InBlock, Event, Refuse, Go, Open, End, unless, timeRefusal, timeOf, nameRefusal, itemRefusal, withItem, readRecord, readBy, readLine, heldFor, heldAfter, shapeRefusal, flowRefusal, closingRefusal, Standing, nothingYet, openRefusal, withResult, closed, oneMore, Worked, Done, Step, Stop, Next, stepUnless, act, andThen, walk, worked}
 use Rattle.limits.specs.Within as limits
 use Rattle.routing.specs.Lengths.{length-routed}
 use Rattle.results.specs.Records.{Each, each-more}

@@ -3,17 +3,17 @@
 --     Prints             an outcome whose text this is, of at most 200 records
 --     run-prints         the outcome of a deck prints its listing
 --     accepted-prints, refused-prints    and so for either answer of the engine
-use Prim.Native.Nat.{ℕ, zero, suc, _+_, _-_, _*_, _≤_, _<_}
-use mathlib.Core.Path.{_≡_, refl, sym, ap, _∙_}
-use mathlib.Core.Bool.{Bool, true, false, _||_}
-use mathlib.Core.List.{List, [], _∷_, _++_}
+use Prim.Native.Nat.{ℕ, _-_, _*_, _≤_}
+use mathlib.Core.Path.{_≡_, refl}
+use mathlib.Core.Bool.{Bool, true, false}
+use mathlib.Core.List.{List}
 use native.Mathlib.Omega.{arith}
 use borrow.Author.Tests.{le-ltb}
 use lib.ListN.{length, replicate}
 use Rattle.meaning.specs.Words.{_<?_, if_then_else_}
 use Rattle.meaning.specs.Blocks.{Time}
-use Rattle.meaning.specs.Results.{Result, recordsOf}
-use Rattle.meaning.specs.Run.{Worked, Stopped, Done, worked, Lent, Answer, Accepted, Refused, Outcome, refused, accepted, noRoom, settled, outcome}
+use Rattle.meaning.specs.Results.{Result}
+use Rattle.meaning.specs.Run.{Worked, Stopped, Done, worked, Lent, Answer, Accepted, Refused, Outcome, refused, noRoom, settled, outcome}
 use Rattle.meaning.specs.Listing.{refusedLine, listingBy, listing}
 use Rattle.engine.specs.declared.Answer as engine
 use Rattle.engine.specs.declared.Answer.the-variants as answer

@@ -1,9 +1,9 @@
 -- What the engine answers prints the deck's listing, by `accepted-prints` and `refused-prints`: the records of at most 200 blocks, or the one line.
-use Prim.Native.Nat.{ℕ, _≤_}
+use Prim.Native.Nat.{_≤_}
 use mathlib.Core.Path.{_≡_}
 use native.Mathlib.Omega.{arith}
 use borrow.Author.Needs.{needs}
-use Rattle.meaning.specs.Listing.{refusedLine, listing}
+use Rattle.meaning.specs.Listing.{listing}
 use Rattle.listing.specs.Line.{listingOf}
 use Rattle.report.specs.Counted.{written-counted}
 use Rattle.report.specs.Printed.{accepted-prints, refused-prints}
