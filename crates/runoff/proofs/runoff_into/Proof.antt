@@ -1,5 +1,6 @@
 -- `runoff::runoff_into` meets its contract: what is spread is the excess of all the intervals, each within its limit.
 use mathlib.Core.Path.{_≡_}
+use native.Mathlib.Omega.{arith}
 use borrow.Author.Needs.{needs}
 use lib.ListN.{length}
 use Rattle.excess.specs.Losses.{excess-within}
@@ -12,7 +13,8 @@ excess-into-requires c κs = search needs
 spread-requires : tie.Need-spread-requires
 spread-requires c κs =
     let s = c .before .before .before .before .before .before .before .before in
-    (s .pre .few, (s .pre .unitsUp, rw (c .before .before .before .excess-into .ensures) (excess-within _ _ _ _ (s .pre .rainsUp))))
+    let long : length (c .before .before .before .excess-into .last .0) ≡ length (s .args .q .now) = c .before .before .before .excess-into .kept .0 in
+    ((s .pre .few, omega (arith, long, s .pre .intervalsUp)), (s .pre .unitsUp, rw (c .before .before .before .excess-into .ensures) (excess-within _ _ _ _ (s .pre .rainsUp))))
 
 same-length : tie.Need-same-length
 same-length c = search needs

@@ -7,18 +7,21 @@ use lib.ListN.{take, length-take}
 use Rattle.sequences.specs.Bounds.{bound-take}
 use Rattle.sequences.specs.FillingBack.{FilledFromEnd, end-none, end-more, end-all}
 use Rattle.meaning.specs.Water.{ordinate}
-use Rattle.runoff.specs.Ordinates.{ordinate-front}
+use Rattle.runoff.specs.Ordinates.{dry-take, ordinate-front}
 use Rattle.runoff.proofs.spread.Statement.{statement}
 use Rattle.runoff.proofs.spread.Tie as tie
 
 abbrev Inv-loop : tie.InvT-loop
-Inv-loop q₀ units i₀ q i = FilledFromEnd (ordinate units q₀) q₀ q i
+Inv-loop q₀ units wet i₀ q i = FilledFromEnd (ordinate units q₀) q₀ q i
 
 abbrev μ-loop : tie.MeasureT-loop
-μ-loop q₀ units i₀ q i = i
+μ-loop q₀ units wet i₀ q i = i
+
+wet-end-requires : tie.Need-wet-end-requires Inv-loop μ-loop
+wet-end-requires c κs = tt
 
 loop-holds : tie.Need-loop-holds Inv-loop μ-loop
-loop-holds c = end-none _ (c .before .before .args .q .now)
+loop-holds c = end-none _ (c .before .before .before .before .args .q .now)
 
 sub-last : tie.Need-sub-last Inv-loop μ-loop
 sub-last c = omega arith
@@ -34,12 +37,14 @@ part-ordinate-at-end c = omega arith
 
 ordinate-at-requires : tie.Need-ordinate-at-requires Inv-loop μ-loop
 ordinate-at-requires c κs =
-    let s = c .before .before .before .before .before .before in
+    let s = c .before .before .before .before .before .before .before .before in
     let l = c .before .before .before .loop in
     let q₀ = s .args .q .now in
     let all : l .i - 0 ≡ l .i = omega arith in
-    let lent : take (l .i - 0) (l .q) ≡ take (l .i) q₀ = rw all (l .inv .front) in
-    ((s .pre .0, rw lent (simp length-take (omega arith))), (s .pre .1 .0, rw lent (bound-take 12_000_000 (l .i) q₀ (s .pre .1 .1))))
+    let lent : take (l .i - 0) (l .q) ≡ take (l .i) q₀ = rw all (l .inv .front) in (
+      (s .pre .0 .0, rw lent (simp length-take (omega arith)), omega (arith, s .pre .0 .1)),
+      (s .pre .1 .0, (rw lent (bound-take 12_000_000 (l .i) q₀ (s .pre .1 .1)), rw lent (dry-take _ (l .i) q₀ (c .before .before .before .before .wet-end .ensures)))),
+    )
 
 mul-q : tie.Need-mul-q Inv-loop μ-loop
 mul-q c = omega arith
@@ -52,7 +57,7 @@ loop-less c = omega arith
 
 loop-again : tie.Need-loop-again Inv-loop μ-loop
 loop-again c =
-    let s = c .before .before .before .before .before .before .before in
+    let s = c .before .before .before .before .before .before .before .before .before in
     let l = c .before .before .before .before .loop in
     let q₀ = s .args .q .now in
     let units = s .args .units .now in
@@ -68,7 +73,7 @@ same-length c = c .before .loop .inv .long
 
 returns : tie.Need-returns Inv-loop μ-loop
 returns c =
-    let s = c .before .before .before .before in
+    let s = c .before .before .before .before .before .before in
     let l = c .before .loop in
     let q₀ = s .args .q .now in
     let none : l .i ≡ 0 = omega arith in
@@ -80,6 +85,7 @@ spread-spec =
     (tie.spec
     Inv-loop
     μ-loop
+    wet-end-requires
     loop-holds
     sub-last
     sub-ordinate-at
