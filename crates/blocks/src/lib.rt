@@ -13,26 +13,27 @@ ghost use Rattle.blocks.specs.Open.{blockOf, nothingOpen, repeatedIn, Ke
 ghost use Rattle.meaning.specs.Words.{_<?_, if_then_else_};
 use rules::Table;
 
+// The words stand first and the bytes last: with no gaps between them a copy is shorter, and one is made for each line.
 pub struct Open {
-    pub name: [u8; 6],
     pub letters: usize,
-    pub ba: bool,
     pub area: u64,
-    pub pi: bool,
     pub rains: usize,
-    pub lu: bool,
     pub initial: u64,
     pub uniform: u64,
-    pub ui: bool,
     pub units: usize,
-    pub qi: bool,
     pub flows: usize,
-    pub hc: bool,
     pub joins: u64,
-    pub rm: bool,
     pub steps: u64,
     pub travel: u64,
     pub weight: u64,
+    pub name: [u8; 6],
+    pub ba: bool,
+    pub pi: bool,
+    pub lu: bool,
+    pub ui: bool,
+    pub qi: bool,
+    pub hc: bool,
+    pub rm: bool,
 }
 
 // The four kinds of a block, or none.

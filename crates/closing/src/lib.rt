@@ -97,15 +97,21 @@ pub fn close_block(
 }
 
 // The record of block `k`, counted from 0, where there is room for it: that there is none is found out only at the end.
-fn write_record(records: &mut [u8], k: usize, o: Open, kind: u8, area: u32, s: Summary)
-    requires { ⌜ (k ≤ 199) × (o .letters ≤ 6) ⌝ }
-    ensures { λ _. ⌜ now (records .exit) ≡ recordPut k (recordBytes (take (o .letters) (o .name)) kind area (s .peak) (s .interval) (s .sum)) (now (records .entry)) ⌝ }
+fn write_record(
+    records: &mut [u8],
+    k: usize,
+    name: [u8; 6],
+    letters: usize,
+    kind: u8,
+    area: u32,
+    s: Summary,
+)
+    requires { ⌜ (k ≤ 199) × (letters ≤ 6) ⌝ }
+    ensures { λ _. ⌜ now (records .exit) ≡ recordPut k (recordBytes (take letters name) kind area (s .peak) (s .interval) (s .sum)) (now (records .entry)) ⌝ }
 {
     if records.len() < 32 * k + 32 {
         return;
     }
-    let name = o.name;
-    let letters = o.letters;
     results::record_at(records, k, &name[0..letters], kind, area, s);
 }
 
@@ -168,7 +174,16 @@ pub fn finish_block(
         };
     }
     let summary = closed.summary;
-    write_record(records, k, o, closed.kind, closed.area, summary);
+    let name = o.name;
+    write_record(
+        records,
+        k,
+        name,
+        o.letters,
+        closed.kind,
+        closed.area,
+        summary,
+    );
     copy_named(ordinates, work, next, nq, named, k);
     Finished {
         refusal: 0,

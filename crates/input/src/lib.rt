@@ -1,6 +1,7 @@
-// Standard input as bundles hold it: numbers of 4 bytes, and decks of a known length.
+// Standard input: all of it, or as bundles hold it, numbers of 4 bytes and decks of a known length.
 ghost use mathlib.Core.Path.{_≡_};
 ghost use Prim.Native.Nat.{_≤_, _<_, min};
+ghost use Rattle.io.specs.Counts.{Counts};
 ghost use Rattle.input.specs.Kept.{Kept};
 use libc::STDIN_FILENO;
 
@@ -18,7 +19,7 @@ fn wide(b: u8) -> usize
 // A number in 4 bytes, the lowest first.
 pub fn read_number() -> Next {
     let mut b = [0u8; 4];
-    if io::read_full(STDIN_FILENO, &mut b) < 4 {
+    if read_all(&mut b) < 4 {
         return Next::End;
     }
     Next::Number(wide(b[0]) + 256 * (wide(b[1]) + 256 * (wide(b[2]) + 256 * wide(b[3]))))
@@ -30,9 +31,32 @@ fn least(a: usize, b: usize) -> usize
     if a < b { a } else { b }
 }
 
+// Reads what comes next, as much as the slice holds at most: 0 bytes only where the input ends.
+fn read_some(s: &mut [u8]) -> usize
+    ensures { λ r. ⌜ Counts r (now (s .exit)) ⌝ }
+{
+    let got = libc::read(STDIN_FILENO, s);
+    io::count(got, s)
+}
+
+// Reads until the slice is full or the input ends; answers how many bytes came.
+pub fn read_all(s: &mut [u8]) -> usize
+    ensures { λ r. ⌜ Counts r (now (s .exit)) ⌝ }
+{
+    let mut n = 0;
+    while n < s.len() {
+        let more = read_some(&mut s[n..]);
+        if more == 0 {
+            return n;
+        }
+        n += more;
+    }
+    n
+}
+
 // Fills a slice; answers whether the input had so many bytes.
 fn fill(s: &mut [u8]) -> bool {
-    io::read_full(STDIN_FILENO, s) == s.len()
+    read_all(s) == s.len()
 }
 
 // Reads past some of the next bytes, `most` at most, and answers how many: 0 only where the input ends.
@@ -41,9 +65,9 @@ fn pass_some(most: usize) -> usize
 {
     let mut past = io::large_buffer();
     if most < 65_536 {
-        return io::read_full(STDIN_FILENO, &mut past[..most]);
+        return read_all(&mut past[..most]);
     }
-    io::read_full(STDIN_FILENO, &mut past)
+    read_all(&mut past)
 }
 
 // Reads past so many bytes; answers whether the input had them.

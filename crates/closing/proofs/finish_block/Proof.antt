@@ -30,13 +30,13 @@ write-record-requires c κs = search needs
 
 copy-named-requires : tie.Need-copy-named-requires
 copy-named-requires c κs =
-    let q = c .before .before .before .before .before .before .before .before .before .before .before in
+    let q = c .before .before .before .before .before .before .before .before .before .before .before .before in
     let s = q .before .before .before .before .before .before .before .before in
     let x = s .args in
     let τ = timeOf (x .minutes) (x .nq) in
     let b = blockOf (x .o) (x .rain .now) (x .units .now) (x .flow .now) in
     let k = q .close-block in
-    let keeps = k .ensures .keeps (c .before .before .before .before .before .before .before .if1 .left) in
+    let keeps = k .ensures .keeps (c .before .before .before .before .before .before .before .before .if1 .left) in
     let long : length (k .last .0) ≡ length (x .work .now) = k .kept .0 in
     let fits : Fits (k .result .held .depth) (x .nq) (length (k .last .0)) = record { deep = keeps .deep; ordinates = s .pre .1 .held .fits .ordinates; enough = omega arith } in
     (s .pre .0, (keeps .some, fits))
@@ -52,13 +52,13 @@ same-length-4 c = search needs
 
 returns-2 : tie.Need-returns-2
 returns-2 c =
-    let q = c .before .before .before .before .before .before .before .before .before .before .before .before .before .before in
+    let q = c .before .before .before .before .before .before .before .before .before .before .before .before .before .before .before in
     let s = q .before .before .before .before .before .before .before .before in
     let x = s .args in
     let τ = timeOf (x .minutes) (x .nq) in
     let b = blockOf (x .o) (x .rain .now) (x .units .now) (x .flow .now) in
     let k = q .close-block in
-    finishes-written τ b (x .held) (x .work .now) (k .result) (k .last .0) (k .ensures) (c .before .before .before .before .before .before .before .before .before .before .if1 .left) (x .named) (x .k) (x .ordinates .now) (x .records .now)
+    finishes-written τ b (x .held) (x .work .now) (k .result) (k .last .0) (k .ensures) (c .before .before .before .before .before .before .before .before .before .before .before .if1 .left) (x .named) (x .k) (x .ordinates .now) (x .records .now)
     (c .before .before .copy-named .ensures) (c .before .before .before .before .before .before .before .write-record .ensures)
 
 pub finish-block-spec : {M : Type 1} → statement M

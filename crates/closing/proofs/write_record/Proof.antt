@@ -28,8 +28,8 @@ part-record-at-start c = search needs
 
 part-record-at-end : tie.Need-part-record-at-end
 part-record-at-end c =
-    let s = c .before .before .before .before .before in
-    let six : length (s .args .o .name) ≡ 6 = search needs in
+    let s = c .before .before .before .before in
+    let six : length (s .args .t3) ≡ 6 = search needs in
     search needs
 
 record-at-requires : tie.Need-record-at-requires
@@ -40,9 +40,9 @@ same-length c = search needs
 
 returns-2 : tie.Need-returns-2
 returns-2 c =
-    let x = c .before .before .before .before .before .before .before .before .before .args in
-    let whole : x .o .letters - 0 ≡ x .o .letters = omega arith in
-    taken _ (le-leb (32 * x .k + 32) (length (x .records .now)) (c .before .before .before .before .before .before .before .if1 .left)) (c .before .before .record-at .ensures ∙ rw whole)
+    let x = c .before .before .before .before .before .before .before .before .args in
+    let whole : x .letters - 0 ≡ x .letters = omega arith in
+    taken _ (le-leb (32 * x .k + 32) (length (x .records .now)) (c .before .before .before .before .before .before .if1 .left)) (c .before .before .record-at .ensures ∙ rw whole)
 
 pub write-record-spec : {M : Type 1} → statement M
 write-record-spec =

@@ -13,24 +13,24 @@ large-buffer-requires c κs = search needs
 array-borrow-prefix-past : tie.Need-array-borrow-prefix-past
 array-borrow-prefix-past c = search needs
 
-slice-aggregate-read-full : tie.Need-slice-aggregate-read-full
-slice-aggregate-read-full c =
+slice-aggregate-read-all : tie.Need-slice-aggregate-read-all
+slice-aggregate-read-all c =
     let b = c .before .before in
     sym (length-take-le (b .before .args .most) (b .large-buffer .result) (omega arith))
 
-read-full-requires : tie.Need-read-full-requires
-read-full-requires c κs = search needs
+read-all-requires : tie.Need-read-all-requires
+read-all-requires c κs = search needs
 
 returns : tie.Need-returns
 returns c =
     let b = c .before .before .before .before in
     omega (arith, length-take (b .before .args .most) (b .large-buffer .result))
 
-slice-aggregate-read-full-2 : tie.Need-slice-aggregate-read-full-2
-slice-aggregate-read-full-2 c = search needs
+slice-aggregate-read-all-2 : tie.Need-slice-aggregate-read-all-2
+slice-aggregate-read-all-2 c = search needs
 
-read-full-requires-2 : tie.Need-read-full-requires-2
-read-full-requires-2 c κs = search needs
+read-all-requires-2 : tie.Need-read-all-requires-2
+read-all-requires-2 c κs = search needs
 
 returns-2 : tie.Need-returns-2
 returns-2 c = search needs
@@ -41,9 +41,9 @@ pass-some-spec =
     (tie.spec
     large-buffer-requires
     array-borrow-prefix-past
-    slice-aggregate-read-full
-    read-full-requires
+    slice-aggregate-read-all
+    read-all-requires
     returns
-    slice-aggregate-read-full-2
-    read-full-requires-2
+    slice-aggregate-read-all-2
+    read-all-requires-2
     returns-2)
