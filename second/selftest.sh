@@ -23,6 +23,10 @@ build() {
 build "$prog" "$here/main.c" "$here/engine.c" "$here/cards.c"
 build "$fuzz" "$here/fuzz.c" "$here/engine.c" "$here/cards.c"
 
+# Nothing is looked for that was not freed: each run ends at once, and on some
+# machines the search takes seconds a run.
+export ASAN_OPTIONS=detect_leaks=0
+
 passed=0
 failed=0
 
