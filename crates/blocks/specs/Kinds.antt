@@ -1,7 +1,7 @@
 -- The kind of a block, told from one number that has a bit for each record: over all the ways that seven records are there or not, by one computed test.
 use Prim.Native.Nat.{ℕ, _+_}
 use mathlib.Core.Path.{_≡_, refl, sym, _∙_}
-use mathlib.Core.Bool.{Bool, true, false, _&&_, false≢true}
+use mathlib.Core.Bool.{Bool, true, false, _&&_}
 use mathlib.Core.List.{List}
 use lib.Dec.{T, eqb, eqb→eq}
 use Rattle.meaning.specs.Words.{_=?_, if_then_else_}

@@ -1,13 +1,13 @@
 -- A list of an open block, as its count delimits it, and grown by a line's values.
-use Prim.Native.Nat.{ℕ, zero, _+_, _≤_}
-use mathlib.Core.Path.{_≡_, refl, sym, ap, _∙_}
+use Prim.Native.Nat.{ℕ, _+_, _≤_}
+use mathlib.Core.Path.{_≡_, refl, ap}
 use mathlib.Core.Bool.{Bool, true, false, not, true≢false, false≢true}
 use mathlib.Core.List.{List, [], _∷_, _++_}
 use native.Mathlib.Omega.{arith}
 use lib.ListN.{length, take, getD, length-append}
 use lib.Seq.{paste, take-paste, length-take-le}
 use Rattle.meaning.specs.Words.{_<?_, met}
-use Rattle.meaning.specs.Blocks.{Card, Absent, Given, valuesOf}
+use Rattle.meaning.specs.Blocks.{Given, valuesOf}
 use Rattle.blocks.specs.Open.{cardBy}
 
 -- the values of a list, whether it is there or not

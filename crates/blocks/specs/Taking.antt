@@ -1,16 +1,16 @@
 -- A line of PI, UI or QI taken into the open block, or refused by 8: one law for each list, from the laws of any list.
 use Prim.Native.Nat.{ℕ, _+_, _≤_}
-use mathlib.Core.Path.{_≡_, refl, sym, ap, _∙_}
-use mathlib.Core.Bool.{Bool, true, false, true≢false}
-use mathlib.Core.List.{List, [], _∷_, _++_}
+use mathlib.Core.Path.{_≡_}
+use mathlib.Core.Bool.{true, false, true≢false}
+use mathlib.Core.List.{List}
 use native.Mathlib.Omega.{arith}
 use borrow.Author.Tests.{ltb-false}
 use lib.ListN.{length, take}
 use lib.Seq.{paste, length-paste}
-use Rattle.meaning.specs.Words.{_<?_, met}
+use Rattle.meaning.specs.Words.{_<?_}
 use Rattle.meaning.specs.Records.{PI, UI, QI}
-use Rattle.meaning.specs.Blocks.{Card, Given, valuesOf, tooMany}
-use Rattle.blocks.specs.Open.{cardBy, blockOf, Kept, Counts, TakesList}
+use Rattle.meaning.specs.Blocks.{tooMany}
+use Rattle.blocks.specs.Open.{Kept, TakesList}
 use Rattle.blocks.specs.Lists.{grown-card, fits-within, one-too-many}
 use Rattle.blocks.specs.declared.Open.{Open}
 

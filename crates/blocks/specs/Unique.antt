@@ -5,7 +5,6 @@ use mathlib.Core.Bool.{Bool}
 use mathlib.Core.List.{List}
 use Rattle.sequences.specs.Choices.{one-answer}
 use Rattle.meaning.specs.Blocks as blocks
-use Rattle.meaning.specs.Blocks.{kindNumber}
 use Rattle.meaning.specs.Records.{Item}
 use Rattle.rules.specs.declared.Table.{Table}
 use Rattle.blocks.specs.declared.Open.{Open}

@@ -1,15 +1,13 @@
 -- The answer of the run as the meaning of a run has it, with what was lent.
 --     answerIs, outcomeIs, lentAs     the answer, what comes back, and the lengths of what was lent
 --     refused-as, accepted-as         the outcome where the deck is refused and where it is accepted
-use Prim.Native.Nat.{ℕ, _+_, _-_, _*_, _≤_}
-use mathlib.Core.Path.{_≡_, refl, sym, ap, _∙_}
+use Prim.Native.Nat.{ℕ, _-_, _*_, _≤_}
+use mathlib.Core.Path.{_≡_, refl, sym, _∙_}
 use mathlib.Core.Bool.{Bool, true, false, _||_, false≢true}
-use mathlib.Core.List.{List, _++_}
+use mathlib.Core.List.{List}
 use borrow.Author.Tests.{ltb-false}
 use lib.ListN.{length, replicate}
 use Rattle.meaning.specs.Words.{_<?_}
-use Rattle.meaning.specs.Blocks.{Time}
-use Rattle.meaning.specs.Results.{Result}
 use Rattle.meaning.specs.Run as run
 use Rattle.meaning.specs.Run.{Outcome, Lent, refused, accepted, noRoom, outcome}
 use Rattle.engine.specs.declared.Answer.{Answer}

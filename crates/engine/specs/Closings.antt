@@ -1,16 +1,15 @@
 -- The block that was open, closed: the refusal that the definitions ask for, and what the run then has.
 --     closed-number    the refusal
 --     ClosedWell       where there is none: what is held and the results are those of the definitions, and what was lent holds them
-use Prim.Native.Nat.{ℕ, zero, suc, _+_, _-_, _*_, _≤_, _<_}
-use mathlib.Core.Path.{_≡_, refl, sym, ap, _∙_, subst}
+use Prim.Native.Nat.{ℕ, _+_, _-_}
+use mathlib.Core.Path.{_≡_, refl}
 use mathlib.Core.List.{List, [], _∷_, _++_}
 use native.Mathlib.Omega.{arith}
 use lib.ListN.{length, length-append}
-use Rattle.meaning.specs.Fields.{Form}
-use Rattle.meaning.specs.Blocks.{Time, Block}
+use Rattle.meaning.specs.Blocks.{Block}
 use Rattle.meaning.specs.Results.{Result}
 use Rattle.meaning.specs.Run as run
-use Rattle.meaning.specs.Run.{Standing, openRefusal, closed, withResult, heldFor, heldAfter}
+use Rattle.meaning.specs.Run.{Standing, openRefusal, closed, withResult}
 use Rattle.limits.specs.Within.{ReadingWithin}
 use Rattle.fields.specs.Spans.{formOf}
 use Rattle.blocks.specs.Open.{blockOf}

@@ -1,18 +1,18 @@
 -- Reading on from one block to the next leaves what is held and what was written as they are, and the count of blocks fits where the reading then stands.
 --     Moved        what holds where a block is opened or the deck ended
 --     moved        and that it does
-use Prim.Native.Nat.{ℕ, zero, suc, _+_, _-_, _*_, _≤_, _<_, zero-le}
+use Prim.Native.Nat.{ℕ, _+_, _-_, _≤_}
 use mathlib.Core.Path.{_≡_, refl, sym, ap, _∙_, subst}
 use mathlib.Core.List.{List, [], _∷_}
 use native.Mathlib.Omega.{arith}
-use lib.ListN.{length, drop, replicate}
+use lib.ListN.{length, drop}
 use Rattle.meaning.specs.Lines.{linesOf}
 use Rattle.meaning.specs.Fields.{Form}
 use Rattle.meaning.specs.Blocks.{Time, Block}
 use Rattle.meaning.specs.Results.{Result}
 use Rattle.meaning.specs.Run as run
 use Rattle.meaning.specs.Run.{Event}
-use Rattle.limits.specs.ReadOn.{Found, Met, readOn}
+use Rattle.limits.specs.ReadOn.{Met, readOn}
 use Rattle.limits.specs.Within.{ReadingWithin, EventWithin, FoundWithin, found-within}
 use Rattle.limits.specs.Times.{Under, FoundUnder, found-under, Outside, FoundOutside, found-outside}
 use Rattle.fields.specs.Spans.{formOf}

@@ -1,14 +1,14 @@
 -- The ways through the meaning of a run, one law for each answer.
-use Prim.Native.Nat.{ℕ, _+_, _-_, _*_, _≤_, _<_}
-use mathlib.Core.Path.{_≡_, refl, sym, ap, _∙_}
-use mathlib.Core.Bool.{Bool, true, false, _||_, or-true}
-use mathlib.Core.List.{List, _++_}
+use Prim.Native.Nat.{ℕ, _-_, _≤_, _<_}
+use mathlib.Core.Path.{_≡_}
+use mathlib.Core.Bool.{true, false}
+use mathlib.Core.List.{List}
 use borrow.Author.Tests.{lt-ltb, le-ltb}
-use lib.ListN.{length, replicate}
-use Rattle.meaning.specs.Words.{_<?_, if_then_else_}
+use lib.ListN.{length}
+use Rattle.meaning.specs.Words.{if_then_else_}
 use Rattle.meaning.specs.Blocks.{Time}
-use Rattle.meaning.specs.Results.{Result, recordsOf}
-use Rattle.meaning.specs.Run.{Worked, Stopped, Done, worked, Lent, Outcome, Accepted, Refused, refused, accepted, namedFlow, noRoom, settled, outcome}
+use Rattle.meaning.specs.Results.{Result}
+use Rattle.meaning.specs.Run.{Stopped, Done, worked, Lent, refused, accepted, noRoom, settled, outcome}
 
 module _ (deck : List ℕ) (named : ℕ) (lent : Lent) where
   pub little-work : lent .work < 6000 → refused 1 0 lent ≡ outcome deck named lent

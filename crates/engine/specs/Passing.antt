@@ -1,13 +1,13 @@
 -- The walk over a deck's lines, from event to event: what each answers, and where the walk goes on.
 use Prim.Native.Nat.{ℕ, zero, suc, _+_, _≤_, _<_}
-use mathlib.Core.Path.{_≡_, refl, sym, ap, _∙_}
-use mathlib.Core.Bool.{Bool, true, false, not}
-use mathlib.Core.List.{List, [], _∷_}
+use mathlib.Core.Path.{_≡_, refl, ap, _∙_}
+use mathlib.Core.Bool.{not}
+use mathlib.Core.List.{List}
 use borrow.Author.Tests.{le-leb, lt-leb, eq-eqb, ne-eqb}
 use lib.ListN.{length}
 use Rattle.meaning.specs.Words.{_=?_, _≤?_, met, first}
 use Rattle.meaning.specs.Blocks.{Time}
-use Rattle.meaning.specs.Run.{Reading, Event, Refuse, Open, End, Standing, openRefusal, closed, oneMore, Worked, Stopped, Done, Step, Stop, Next, stepUnless, act, andThen, walk}
+use Rattle.meaning.specs.Run.{Reading, Refuse, Open, End, Standing, openRefusal, closed, oneMore, Stopped, Done, Stop, Next, stepUnless, andThen, walk}
 use Rattle.limits.specs.ReadOn.{Found, Missing, Met, readOn, workFound, walk-read}
 
 module _ (ls : List (List ℕ)) (r : Reading) (s : Standing) (n : ℕ) where

@@ -4,12 +4,12 @@ use mathlib.Core.Path.{_≡_, refl}
 use mathlib.Core.Bool.{false}
 use mathlib.Core.List.{List}
 use native.Mathlib.Omega.{arith}
-use lib.ListN.{length, take}
+use lib.ListN.{length}
 use Rattle.meaning.specs.Fields.{Fixed}
 use Rattle.meaning.specs.Blocks.{opened}
 use Rattle.meaning.specs.Run.{BeforeTime, InBlock}
 use Rattle.fields.specs.Spans.{formOf}
-use Rattle.blocks.specs.Open.{nothingOpen, kept-nothing, Counts}
+use Rattle.blocks.specs.Open.{Counts}
 use Rattle.reading.specs.declared.Reading.{Reading}
 use Rattle.reading.specs.declared.Name.{Name}
 use Rattle.reading.specs.declared.Phase.the-variants as phase

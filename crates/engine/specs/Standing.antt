@@ -1,10 +1,10 @@
 -- Where the run stands between two blocks, and what it comes to.
 --     Going      the run's invariant: the walk over the lines left, from here, is the walk over the deck
 --     WorkedIs   what the deck came to
-use Prim.Native.Nat.{ℕ, zero, suc, _+_, _-_, _*_, _≤_, _<_}
+use Prim.Native.Nat.{ℕ, _+_, _-_, _*_, _≤_, _<_}
 use mathlib.Core.Path.{_≡_}
 use mathlib.Core.Bool.{Bool, true, false}
-use mathlib.Core.List.{List, [], _∷_, _++_}
+use mathlib.Core.List.{List, _++_}
 use lib.ListN.{length, drop, replicate}
 use Rattle.meaning.specs.Lines.{linesOf}
 use Rattle.meaning.specs.Blocks.{Time, Held}

@@ -1,6 +1,6 @@
 -- Where the run starts: fixed form, nothing held, no results, and zeros lent for them.
-use Prim.Native.Nat.{ℕ, _+_, _≤_, zero-le}
-use mathlib.Core.Path.{_≡_, refl, sym, ap, _∙_}
+use Prim.Native.Nat.{ℕ, _≤_, zero-le}
+use mathlib.Core.Path.{_≡_, refl, _∙_}
 use mathlib.Core.List.{List, []}
 use lib.ListN.{length, replicate}
 use Rattle.meaning.specs.Run.{worked}

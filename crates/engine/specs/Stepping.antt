@@ -1,9 +1,8 @@
 -- The ways of a turn of the run: refused where a block closes, a 201st block, the next block, not one held at the end, the deck worked.
 use Prim.Native.Nat.{ℕ, zero, suc, _+_, _-_, _*_, _≤_, _<_}
 use mathlib.Core.Path.{_≡_, refl, sym, ap, _∙_, subst}
-use mathlib.Core.Logic.{⊎-elim}
 use mathlib.Core.Bool.{Bool, true, false}
-use mathlib.Core.List.{List, [], _∷_, _++_}
+use mathlib.Core.List.{List, _++_}
 use native.Mathlib.Omega.{arith}
 use borrow.Author.Tests.{eqb-true, eqb-false}
 use lib.ListN.{length, drop, replicate, length-append}
@@ -12,12 +11,10 @@ use Rattle.sequences.specs.Parts.{part}
 use Rattle.meaning.specs.Words.{_=?_, if_then_else_}
 use Rattle.meaning.specs.Lines.{linesOf}
 use Rattle.meaning.specs.Fields.{Form}
-use Rattle.meaning.specs.Blocks.{Time, Block, Held, opened}
-use Rattle.meaning.specs.Results.{Result}
+use Rattle.meaning.specs.Blocks.{Time, Block, Held}
 use Rattle.meaning.specs.Run as run
 use Rattle.meaning.specs.Run.{InBlock, Open, End, Standing, openRefusal, closed, withResult, oneMore, Stopped, Done, walk, worked, namedFlow, heldFor}
 use Rattle.limits.specs.ReadOn.{Met, readOn}
-use Rattle.limits.specs.Within.{ReadingWithin}
 use Rattle.limits.specs.Times.{Timed, FoundTimed, found-timed}
 use Rattle.fields.specs.Spans.{formOf}
 use Rattle.blocks.specs.Open.{blockOf}
@@ -33,11 +30,10 @@ use Rattle.stack.specs.View.{view, length-held}
 use Rattle.closing.specs.declared.Finished.{Finished}
 use Rattle.closing.specs.Holding.{view-last}
 use Rattle.closing.specs.Finishing.{copiedFirst}
-use Rattle.closing.specs.Carrying.{Carried, carried-named, carried-last, HeldAfter}
+use Rattle.closing.specs.Carrying.{Carried, carried-named, carried-last}
 use Rattle.engine.specs.declared.State.{State}
 use Rattle.engine.specs.declared.Turn.{Turn}
 use Rattle.engine.specs.Passing.{open-refused, open-too-many, open-goes, end-refused, end-not-one, end-done}
-use Rattle.engine.specs.Readings.{Roomy, Opens}
 use Rattle.engine.specs.Standing.{standing, CountBy, Going, DoneIs, ClosedBy}
 use Rattle.engine.specs.Turns.{GoesOn}
 use Rattle.engine.specs.Moving.{Moved, limits, moved}

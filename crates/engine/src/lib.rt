@@ -1,13 +1,8 @@
 // The run: a deck's blocks read one after the other, each closed as the next is opened, and what comes back of them.
 ghost use mathlib.Core.Path.{_≡_};
-ghost use mathlib.Core.List.{List};
-ghost use Prim.Native.Nat.{ℕ, _+_, _-_, _*_, _≤_};
+ghost use Prim.Native.Nat.{_+_, _-_, _*_, _≤_};
 ghost use lib.ListN.{length, replicate};
-ghost use Rattle.meaning.specs.Fields.{Fixed};
 ghost use Rattle.meaning.specs.Run.{BeforeTime, refused, outcome};
-ghost use Rattle.reading.specs.Stands.{readingIs};
-ghost use Rattle.reading.specs.Getting.{openedIn, nameIs};
-ghost use Rattle.reading.specs.Taking.{Ready};
 ghost use Rattle.engine.specs.Readings.{Begins, Opens, Roomy};
 ghost use mathlib.Core.Bool.{true};
 ghost use Rattle.engine.specs.Standing.{MayClose, ClosedBy, Going, TurnIs, WorkedIs};

@@ -1,16 +1,16 @@
 -- Lines that have no record's identifier: blank ones, controls, unknown ones.
-use Prim.Native.Nat.{ℕ, _+_, _≤_, _<_}
+use Prim.Native.Nat.{ℕ, _+_, _<_}
 use Prim.Native.String.{String}
 use mathlib.Core.Path.{_≡_, refl, sym, _∙_, ap}
-use mathlib.Core.Bool.{Bool, true, false}
-use mathlib.Core.List.{List, [], _∷_}
+use mathlib.Core.Bool.{true, false}
+use mathlib.Core.List.{List}
 use native.Mathlib.Omega.{arith}
 use lib.ListN.{length, take, drop, length-take}
 use Rattle.meaning.specs.Words.{if_then_else_, same, bytes}
 use Rattle.meaning.specs.Lines.{allBlank}
 use Rattle.meaning.specs.Fields.{Fixed, Free, isBlank, trimEnd}
-use Rattle.meaning.specs.Records.{Control, Identified, Unknown, Known, begins, says, identify}
-use Rattle.meaning.specs.Run.{Head, Faulty, Skipped, Holds, holding}
+use Rattle.meaning.specs.Records.{Control, Identified, Unknown, begins, says, identify}
+use Rattle.meaning.specs.Run.{Faulty, Skipped, Holds, holding}
 use Rattle.fields.specs.Trimming.{trim-front}
 use Rattle.sequences.specs.Choices.{taken, passed}
 use Rattle.identifiers.specs.Heads.{plainHead, control, unread}

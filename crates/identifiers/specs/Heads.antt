@@ -1,6 +1,5 @@
 -- What the answers mean, and what a line is that has passed refusal 3.
 use Prim.Native.Nat.{ℕ, _+_, _*_}
-use mathlib.Core.Bool.{Bool, true, false}
 use mathlib.Core.List.{List}
 use Rattle.meaning.specs.Words.{_=?_, if_then_else_}
 use Rattle.meaning.specs.Lines.{allBlank}

@@ -1,18 +1,16 @@
 -- An identifier is told by the number of its two bytes.
-use Prim.Native.Nat.{ℕ, suc, _+_, _*_, _≤_, _<_}
-use Prim.Native.String.{String}
-use mathlib.Core.Path.{_≡_, refl, sym, _∙_, ap}
-use mathlib.Core.Bool.{Bool, true, false, _&&_, true≢false}
+use Prim.Native.Nat.{ℕ, _≤_, _<_}
+use mathlib.Core.Path.{_≡_, refl, sym}
+use mathlib.Core.Bool.{Bool, true, false, _&&_}
 use mathlib.Core.List.{List, [], _∷_}
 use native.Mathlib.Omega.{arith}
 use borrow.Author.Tests.{eq-eqb, ne-eqb, eqb-true, eqb-false, ltb-true, leb-true}
-use lib.ListN.{length, take, drop, getD}
-use Rattle.meaning.specs.Words.{_=?_, _<?_, _≤?_, if_then_else_, same, bytes}
+use lib.ListN.{length, take, getD}
+use Rattle.meaning.specs.Words.{_=?_, _<?_, _≤?_, if_then_else_, same}
 use Rattle.meaning.specs.Lines.{blank, allBlank}
-use Rattle.meaning.specs.Fields.{Fixed, Free, isBlank, trimEnd}
-use Rattle.meaning.specs.Records.{Record, ID, IT, KK, KM, ZZ, Control, Of, BA, PI, LU, UI, QI, HC, RM, Identified, Unknown, Known, begins, says, identify}
-use Rattle.meaning.specs.Run.{Head, Faulty, Skipped, Holds, holding}
-use Rattle.sequences.specs.Choices.{taken, passed, both-hold}
+use Rattle.meaning.specs.Records.{Record, ID, IT, KK, KM, ZZ, Of, BA, PI, LU, UI, QI, HC, RM, Identified, Known, begins, identify}
+use Rattle.meaning.specs.Run.{Head, Skipped, Holds, holding}
+use Rattle.sequences.specs.Choices.{both-hold}
 use Rattle.identifiers.specs.Heads.{keyOf, plainHead, control, unread, byKey}
 
 -- two bytes are two others where their numbers are the same

@@ -1,10 +1,8 @@
 // What a line is, by its first two bytes: a record, a control, nothing to read, or unknown.
 ghost use mathlib.Core.Path.{_≡_};
-ghost use Prim.Native.Nat.{ℕ, _+_, _*_, _≤_, _<_};
-ghost use lib.ListN.{length, getD};
+ghost use Prim.Native.Nat.{_+_, _*_, _<_};
 ghost use Rattle.meaning.specs.Words.{same};
 ghost use Rattle.meaning.specs.Lines.{allBlank};
-ghost use Rattle.meaning.specs.Fields.{trimEnd, isBlank};
 ghost use Rattle.identifiers.specs.Heads.{headIs, plainHead, unread, keyOf};
 
 // The records that a block holds.

@@ -2,17 +2,17 @@
 --     TimeWithin, Within    the limits, for the time control and for the cards of an open block
 --     reading-within        kept by every line
 --     found-within          and so where the reading comes to
-use Prim.Native.Nat.{ℕ, zero, suc, _+_, _-_, _≤_, _<_, zero-le}
-use mathlib.Core.Path.{_≡_, refl, sym, ap, _∙_}
-use mathlib.Core.Bool.{Bool, true, false, _&&_, not, true≢false, false≢true}
+use Prim.Native.Nat.{ℕ, zero, suc, _+_, _-_, _≤_, zero-le}
+use mathlib.Core.Path.{_≡_, refl, _∙_}
+use mathlib.Core.Bool.{Bool, true, false, true≢false, false≢true}
 use mathlib.Core.List.{List, [], _∷_, _++_}
 use native.Mathlib.Omega.{arith}
-use lib.ListN.{length, getD, replicate, length-append, length-replicate}
+use lib.ListN.{length, replicate, length-append, length-replicate}
 use Rattle.sequences.specs.Bounds.{AllUpTo}
-use Rattle.meaning.specs.Words.{_<?_, if_then_else_, empty, met, first}
+use Rattle.meaning.specs.Words.{if_then_else_, met, first}
 use Rattle.meaning.specs.Fields.{Form, fieldsOf, nameIn}
-use Rattle.meaning.specs.Records.{Item, BA, PI, LU, UI, QI, HC, RM, Record, ID, IT, KK, KM, ZZ, Control, Of, Rule, Limited, timeRules, rulesOf, lists, filledUp, valueFields, anyFaulty, anyOutside, valuesFrom, badName}
-use Rattle.meaning.specs.Blocks.{Time, Card, Absent, Given, isGiven, valuesOf, Block, opened, cardOf, withValues, repeated, tooMany, value1, value2, value3}
+use Rattle.meaning.specs.Records.{Item, BA, PI, LU, UI, QI, HC, RM, Record, ID, IT, KK, KM, ZZ, Control, Of, Rule, Limited, timeRules, rulesOf, filledUp, valueFields, anyFaulty, anyOutside, valuesFrom, badName}
+use Rattle.meaning.specs.Blocks.{Time, Card, Absent, Given, isGiven, valuesOf, Block, opened, repeated, tooMany, value1, value2, value3}
 use Rattle.meaning.specs.Run.{Head, Faulty, Skipped, Holds, headOf, Reading, BeforeTime, BeforeBlocks, InBlock, Event, Refuse, Go, Open, End, unless, timeRefusal, timeOf, nameRefusal, itemValues, itemRefusal, withItem, readRecord, readBy, readLine}
 use Rattle.limits.specs.Trimming.{faulty-split}
 use Rattle.limits.specs.Limits.{highest, RulesUpTo, values-at-most, values-at-least, values-up-to}

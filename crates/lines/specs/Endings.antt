@@ -1,14 +1,13 @@
 -- The ways through the definition of a line, one law for each.
 use Prim.Native.Nat.{ℕ, _+_, _-_, _≤_, _<_}
 use mathlib.Core.Path.{_≡_, refl}
-use mathlib.Core.Bool.{Bool, true, false, _&&_, and-false}
+use mathlib.Core.Bool.{false, _&&_, and-false}
 use mathlib.Core.List.{List}
 use borrow.Author.Tests.{eq-eqb, ne-eqb, lt-ltb, le-ltb, le-leb, lt-leb}
 use lib.ListN.{length, getD, List·getD-eq-default}
-use Rattle.meaning.specs.Words.{_=?_, if_then_else_}
+use Rattle.meaning.specs.Words.{_=?_}
 use Rattle.meaning.specs.Lines.{lf, cr}
 use Rattle.sequences.specs.Choices.{taken, passed}
-use Rattle.lines.specs.declared.Line.{Line}
 use Rattle.lines.specs.Line.{fairLine, unfairLine, lineEnding, lineFrom}
 
 module _ (s : List ℕ) (at end : ℕ) where

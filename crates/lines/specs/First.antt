@@ -2,8 +2,8 @@
 --     fair-line      a fair one passes refusal 3, and the lines go on at `next`
 --     unfair-line    any other meets it
 use Prim.Native.Nat.{ℕ, suc, _+_, _-_, _≤_, _<_}
-use mathlib.Core.Path.{_≡_, refl, sym, _∙_, ap}
-use mathlib.Core.Bool.{Bool, true, false, _&&_, _||_, not, or-true}
+use mathlib.Core.Path.{_≡_, refl, _∙_, ap}
+use mathlib.Core.Bool.{Bool, true, false, _&&_, or-true}
 use mathlib.Core.List.{List, [], _∷_, _++_, append-nil}
 use mathlib.Core.Logic.{⊎-elim}
 use native.Mathlib.Numerals.{add-one}
@@ -12,10 +12,10 @@ use borrow.Author.Tests.{eqb-true, lt-ltb, le-ltb, ltb-true, ltb-false, leb-true
 use lib.ListN.{length, take, drop, getD, drop-of-length-le, length-drop, length-append, List·getD-eq-default}
 use lib.Seq.{drop-cons, drop-drop, getD-drop, length-take-le}
 use Rattle.meaning.specs.Words.{_=?_, _≤?_, _<?_, if_then_else_}
-use Rattle.meaning.specs.Lines.{lf, cr, inFront, linesOf, allPlain, foreign}
+use Rattle.meaning.specs.Lines.{lf, cr, inFront, linesOf, foreign}
 use Rattle.sequences.specs.Choices.{below-or-not, both-hold}
 use Rattle.sequences.specs.Parts.{part}
-use Rattle.sequences.specs.Runs.{run, every, run-within, run-at-within, run-at-stops, every-run, not-every}
+use Rattle.sequences.specs.Runs.{run, run-within, run-at-within, run-at-stops, every-run, not-every}
 use Rattle.lines.specs.declared.Line.{Line}
 use Rattle.lines.specs.Line.{isPlain, fairLine, unfairLine, lineEnding, lineFrom, lineAt}
 use Rattle.lines.specs.Plain.{plain-every, front, front-line, front-none, lines-run}

@@ -2,23 +2,23 @@
 --     name-found    the part that the answer names is the name
 use Prim.Native.Nat.{ℕ, suc, _+_, _-_, _≤_, _<_}
 use mathlib.Core.Path.{_≡_, refl, sym, _∙_, ap}
-use mathlib.Core.Bool.{Bool, true, false, _||_, _&&_, or-true}
+use mathlib.Core.Bool.{Bool, true, false}
 use mathlib.Core.List.{List, [], _∷_}
 use mathlib.Core.Logic.{⊎-elim}
 use native.Mathlib.Numerals.{add-one}
 use native.Mathlib.Omega.{arith}
-use borrow.Author.Tests.{eq-eqb, ne-eqb, lt-ltb, le-ltb, le-leb, lt-leb}
+use borrow.Author.Tests.{ne-eqb, lt-ltb, le-ltb, le-leb, lt-leb}
 use lib.ListN.{length, take, drop, getD, drop-of-length-le}
 use lib.Seq.{drop-cons, drop-drop, take-nil}
-use Rattle.meaning.specs.Words.{_=?_, _<?_, _≤?_, if_then_else_, empty}
+use Rattle.meaning.specs.Words.{_=?_, if_then_else_, empty}
 use Rattle.meaning.specs.Lines.{blank}
-use Rattle.meaning.specs.Fields.{Form, Fixed, Free, isBlank, comma, markOf, trimEnd, skipBlanks, strip, fixedField, word, nameIn}
+use Rattle.meaning.specs.Fields.{Form, Fixed, Free, isBlank, comma, markOf, trimEnd, skipBlanks, strip, word, nameIn}
 use Rattle.meaning.specs.Records.{anyBlank, badName}
 use Rattle.sequences.specs.Choices.{below-or-not, taken, passed}
 use Rattle.sequences.specs.Parts.{part}
 use Rattle.sequences.specs.Runs.{run}
 use Rattle.fields.specs.declared.Span.{Span}
-use Rattle.fields.specs.Spans.{formOf, inValue, blanksEnd, valueEnd, spanOf, cut, fixedSpan, firstPlace, startOf, spanAt, Stands}
+use Rattle.fields.specs.Spans.{inValue, blanksEnd, valueEnd, spanOf, cut, firstPlace, startOf, spanAt}
 use Rattle.fields.specs.Turns.{Turn, turn, first-stands}
 use Rattle.fields.specs.Fixed.{skip-drop, field-cut, value-part}
 use Rattle.names.specs.Names.{nameFrom, nameSpan}

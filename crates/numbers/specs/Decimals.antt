@@ -10,8 +10,8 @@ use native.Mathlib.Omega.{arith}
 use borrow.Author.Tests.{ne-eqb}
 use lib.ListN.{length, take, drop, getD, length-append, length-drop, drop-of-length-le}
 use lib.Seq.{drop-cons, split-at, take-all, length-take-le}
-use Rattle.meaning.specs.Words.{_=?_, _≤?_, if_then_else_}
-use Rattle.meaning.specs.Numbers.{Number, NoNumber, Decimal, isDigit, isPoint, beforePoint, behindPoint, allDigits, readOn, decimalOf}
+use Rattle.meaning.specs.Words.{if_then_else_}
+use Rattle.meaning.specs.Numbers.{NoNumber, isDigit, beforePoint, behindPoint, allDigits, readOn, decimalOf}
 use Rattle.sequences.specs.Runs.{run, every, run-within, run-stops, every-run, every-append, not-every, test-tells}
 use Rattle.numbers.specs.declared.Digits.{Digits}
 use Rattle.numbers.specs.Reading.{counted, digitsFrom}

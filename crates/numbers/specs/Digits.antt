@@ -1,15 +1,15 @@
 -- Runs of digits: one digit more, where a run stops, and how large a number of so many digits is.
 use Prim.Native.Nat.{ℕ, suc, _+_, _-_, _*_, _^_, _≤_, _<_}
-use mathlib.Core.Path.{_≡_, refl, sym, _∙_, ap}
-use mathlib.Core.Bool.{Bool, true, false, _&&_}
-use mathlib.Core.List.{List, [], _∷_, _++_}
+use mathlib.Core.Path.{_≡_, _∙_, ap}
+use mathlib.Core.Bool.{true, false}
+use mathlib.Core.List.{List}
 use native.Mathlib.Nat.{add-zero, pow-suc, pow-le-pow-right}
 use native.Mathlib.Numerals.{add-one}
 use native.Mathlib.Omega.{arith}
 use lib.ListN.{length, take, drop, getD}
 use lib.Seq.{drop-cons}
-use Rattle.meaning.specs.Numbers.{isDigit, readOn, allDigits}
-use Rattle.sequences.specs.Runs.{run, run-more, run-stop, run-end, every}
+use Rattle.meaning.specs.Numbers.{isDigit, readOn}
+use Rattle.sequences.specs.Runs.{run, run-more, run-stop, run-end}
 use Rattle.numbers.specs.declared.Digits.{Digits}
 use Rattle.numbers.specs.Reading.{digitsFrom}
 

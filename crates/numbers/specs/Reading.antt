@@ -1,6 +1,6 @@
 -- What the answers mean, and what the runs of digits in a number are.
 use Prim.Native.Nat.{ℕ, _+_}
-use mathlib.Core.Bool.{Bool, true, false, _&&_}
+use mathlib.Core.Bool.{Bool, _&&_}
 use mathlib.Core.List.{List}
 use lib.ListN.{take, drop}
 use Rattle.meaning.specs.Words.{_≤?_, if_then_else_}

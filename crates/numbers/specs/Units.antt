@@ -5,8 +5,8 @@ use mathlib.Core.Bool.{Bool, true, false, _&&_, and-false}
 use native.Mathlib.Nat.{mul-le-mul-left}
 use native.Mathlib.Omega.{arith}
 use borrow.Author.Tests.{lt-ltb, le-ltb}
-use Rattle.meaning.specs.Words.{_<?_, if_then_else_}
-use Rattle.meaning.specs.Numbers.{Decimal, Value, Malformed, Negative, Units, inUnits}
+use Rattle.meaning.specs.Words.{_<?_}
+use Rattle.meaning.specs.Numbers.{Decimal, Malformed, Negative, Units, inUnits}
 use Rattle.sequences.specs.Choices.{taken, passed}
 use Rattle.numbers.specs.Digits.{ten-below}
 

@@ -3,16 +3,15 @@
 --     line-read      the pass has it, over the line's fields and blank ones behind them, as many as the record names at least
 use Prim.Native.Nat.{ℕ, zero, suc, _+_, _-_, _≤_, _<_, zero-le}
 use mathlib.Core.Path.{_≡_, refl, sym, ap, _∙_}
-use mathlib.Core.Bool.{Bool, true, false, _&&_, _||_}
+use mathlib.Core.Bool.{false}
 use mathlib.Core.Logic.{⊎-elim}
-use mathlib.Core.List.{List, [], _∷_, _++_, append-assoc, append-nil}
+use mathlib.Core.List.{List, [], _∷_, _++_, append-assoc}
 use native.Mathlib.Omega.{arith}
-use borrow.Author.Tests.{le-ltb}
-use lib.ListN.{length, take, getD, replicate, length-append, length-replicate, getD-replicate, replicate-append-replicate, List·getD-eq-default}
+use lib.ListN.{length, take, replicate, length-append, length-replicate, getD-replicate, replicate-append-replicate, List·getD-eq-default}
 use Rattle.sequences.specs.Choices.{below-or-not}
 use Rattle.meaning.specs.Words.{if_then_else_, empty}
 use Rattle.meaning.specs.Fields.{trimEnd}
-use Rattle.meaning.specs.Records.{Rule, Unnamed, Limited, ruleAt, BA, PI, LU, UI, QI, HC, RM, timeRules, rulesOf, filledUp, valueFields, outsideField, anyFaulty, anyOutside, valuesFrom}
+use Rattle.meaning.specs.Records.{Rule, Unnamed, Limited, BA, LU, HC, RM, timeRules, rulesOf, filledUp, anyFaulty, anyOutside, valuesFrom}
 use Rattle.rules.specs.declared.Table.{Table}
 use Rattle.rules.specs.declared.Table.the-variants.{Time, Area, Rain, Loss, Units, Flow, Joins, Reach}
 use Rattle.rules.specs.Tables.{rulesBy, namedBy}

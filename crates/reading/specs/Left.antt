@@ -3,9 +3,9 @@
 --     left-turn        one field noted takes the first of them off
 --     left-none        none are left
 --     left-first       at the start they are the line's fields with blank ones behind
-use Prim.Native.Nat.{ℕ, zero, suc, _+_, _-_, _*_, _≤_, _<_, zero-le}
+use Prim.Native.Nat.{ℕ, suc, _+_, _-_, _*_, _≤_, _<_}
 use mathlib.Core.Path.{_≡_, refl, sym, ap, _∙_}
-use mathlib.Core.Bool.{Bool, true, false, true≢false, false≢true}
+use mathlib.Core.Bool.{Bool, true, false, true≢false}
 use mathlib.Core.Logic.{⊎-elim}
 use mathlib.Core.List.{List, [], _∷_, _++_, append-assoc}
 use native.Mathlib.Omega.{arith}
@@ -13,12 +13,12 @@ use borrow.Author.Tests.{lt-ltb, le-ltb, ltb-true, ltb-false}
 use lib.ListN.{length, replicate, length-append, length-replicate, replicate-append-replicate}
 use Rattle.sequences.specs.Choices.{below-or-not}
 use Rattle.sequences.specs.Parts.{part}
-use Rattle.meaning.specs.Words.{_<?_, if_then_else_, empty}
-use Rattle.meaning.specs.Fields.{Form, Fixed, Free, trimEnd, fieldsOf}
+use Rattle.meaning.specs.Words.{_<?_, if_then_else_}
+use Rattle.meaning.specs.Fields.{Form, Fixed, Free, fieldsOf}
 use Rattle.fields.specs.declared.Span.{Span}
 use Rattle.fields.specs.Spans.{Stands, firstPlace, spanAt, fieldsFrom}
 use Rattle.fields.specs.Fixed.{start-bounds, start-next}
-use Rattle.fields.specs.Turns.{Turn, turn, first-stands, first-fields, fields-done}
+use Rattle.fields.specs.Turns.{turn, first-fields, fields-done}
 use Rattle.limits.specs.Trimming.{trim-split}
 
 abbrev pub blanksFor : ℕ → ℕ → List (List ℕ) → List (List ℕ)

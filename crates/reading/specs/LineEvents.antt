@@ -2,20 +2,20 @@
 --     outside-event    refusal 7
 --     time-event       the time control taken
 --     item-event       a record of the open block taken, or refused by 8
-use Prim.Native.Nat.{ℕ, zero, suc, _≤_, _<_}
-use mathlib.Core.Path.{_≡_, refl, sym, ap, _∙_}
-use mathlib.Core.Bool.{Bool, true, false}
-use mathlib.Core.List.{List, [], _∷_}
+use Prim.Native.Nat.{ℕ, zero, suc}
+use mathlib.Core.Path.{_≡_, refl, sym, _∙_}
+use mathlib.Core.Bool.{true, false}
+use mathlib.Core.List.{List}
 use native.Mathlib.Omega.{arith}
-use lib.ListN.{length, take, getD}
+use lib.ListN.{take, getD}
 use lib.Seq.{getD-take}
-use Rattle.meaning.specs.Words.{if_then_else_, met, first}
+use Rattle.meaning.specs.Words.{if_then_else_, met}
 use Rattle.meaning.specs.Fields.{Form}
 use Rattle.meaning.specs.Records as records
-use Rattle.meaning.specs.Records.{timeRules, rulesOf, filledUp, valueFields, anyFaulty, anyOutside, valuesFrom}
-use Rattle.meaning.specs.Blocks.{Time, Block, repeated, tooMany, withValues}
+use Rattle.meaning.specs.Records.{rulesOf, valueFields, anyFaulty, anyOutside}
+use Rattle.meaning.specs.Blocks.{Time, Block, repeated, tooMany}
 use Rattle.meaning.specs.Run as run
-use Rattle.meaning.specs.Run.{BeforeTime, BeforeBlocks, InBlock, Event, Refuse, Go, unless, timeRefusal, timeOf, itemValues, itemRefusal, withItem}
+use Rattle.meaning.specs.Run.{BeforeTime, BeforeBlocks, InBlock, Refuse, Go, unless, timeRefusal, timeOf, itemValues, itemRefusal, withItem}
 use Rattle.rules.specs.declared.Table.{Table}
 use Rattle.rules.specs.declared.Table.the-variants as table
 use Rattle.rules.specs.Tables.{rulesBy}
@@ -26,7 +26,7 @@ use Rattle.reading.specs.declared.Phase.the-variants as phase
 use Rattle.reading.specs.Scanning.{Scanned}
 use Rattle.reading.specs.Fielding.{valueFieldsBy, spanOf, LineRead}
 use Rattle.limits.specs.Limits.{values-at-most}
-use Rattle.reading.specs.Stands.{formIn, itemBy, phaseOf, itemEvent, timeEvent, fieldsEvent}
+use Rattle.reading.specs.Stands.{formIn, itemBy, phaseOf, timeEvent, fieldsEvent}
 use Rattle.reading.specs.Placing.{repeated-in, fields-item}
 
 not-timed : {A : Type 0} → phase.BeforeTime ≡ phase.InBlock → A

@@ -1,19 +1,18 @@
 -- The ways of a line whose fields were read without a fault: outside its limits, the time control, a record of the open block.
-use Prim.Native.Nat.{ℕ, zero, _≤_}
+use Prim.Native.Nat.{ℕ, _≤_}
 use mathlib.Core.Path.{_≡_, refl, sym, ap, _∙_, subst}
-use mathlib.Core.Bool.{Bool, true, false}
+use mathlib.Core.Bool.{true, false}
 use mathlib.Core.Logic.{_⊎_, inl, inr, ⊎-elim}
 use mathlib.Core.List.{List}
 use native.Mathlib.Omega.{arith}
 use lib.ListN.{length, take, getD}
 use lib.Seq.{getD-take}
-use Rattle.meaning.specs.Fields.{Form}
 use Rattle.meaning.specs.Records.{timeRules}
-use Rattle.meaning.specs.Run.{Event, Refuse, Go, unless, BeforeTime}
+use Rattle.meaning.specs.Run.{Refuse, BeforeTime}
 use Rattle.fields.specs.Spans.{formOf}
 use Rattle.rules.specs.declared.Table.{Table}
 use Rattle.rules.specs.declared.Table.the-variants as table
-use Rattle.blocks.specs.Open.{blockOf, nothingOpen, repeatedIn, spanBy, kept-nothing, ThirdZero}
+use Rattle.blocks.specs.Open.{repeatedIn, spanBy, kept-nothing}
 use Rattle.reading.specs.declared.Phase.{Phase}
 use Rattle.reading.specs.declared.Phase.the-variants as phase
 use Rattle.reading.specs.declared.Reading.{Reading}
@@ -21,8 +20,8 @@ use Rattle.reading.specs.declared.Read.{Read}
 use Rattle.reading.specs.Scanning.{Scanned}
 use Rattle.reading.specs.Fielding.{valueFieldsBy, LineRead}
 use Rattle.limits.specs.Limits.{values-at-most}
-use Rattle.reading.specs.Stands.{readingIs, readingBy, timeIs, phaseOf, fieldsEvent}
-use Rattle.reading.specs.LineEvents.{time-outside, time-event, outside-event, item-event, takes-by, third-zero}
+use Rattle.reading.specs.Stands.{readingIs, timeIs, phaseOf, fieldsEvent}
+use Rattle.reading.specs.LineEvents.{time-outside, time-event, outside-event, item-event, takes-by}
 use Rattle.reading.specs.Taking.{timeTaken, ItemTaken, Ready, Passed, LineTaken}
 
 pub kind-of-table : (t : Table) → (t ≡ table.Time) ⊎ (phaseOf t ≡ phase.InBlock)

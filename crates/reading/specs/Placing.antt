@@ -2,14 +2,13 @@
 use Prim.Native.Nat.{ℕ}
 use native.Mathlib.Omega.{arith}
 use mathlib.Core.Path.{_≡_, refl, sym, _∙_}
-use mathlib.Core.Bool.{Bool, true, false, not, _&&_}
+use mathlib.Core.Bool.{Bool, true, false}
 use mathlib.Core.List.{List}
-use Rattle.meaning.specs.Words.{met, first}
 use Rattle.meaning.specs.Records as records
 use Rattle.meaning.specs.Blocks.{Time, repeated, isGiven}
 use Rattle.meaning.specs.Fields.{fieldsOf}
 use Rattle.meaning.specs.Run as run
-use Rattle.meaning.specs.Run.{BeforeTime, BeforeBlocks, InBlock, Refuse, itemRefusal}
+use Rattle.meaning.specs.Run.{BeforeTime, BeforeBlocks, InBlock, itemRefusal}
 use Rattle.fields.specs.Spans.{formOf}
 use Rattle.identifiers.specs.declared.Item.{Item}
 use Rattle.identifiers.specs.declared.Record.{Record}

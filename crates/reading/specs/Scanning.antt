@@ -3,16 +3,15 @@
 --     scan-outside     the flag is refusal 7's
 --     scan-count       the count is that of the fields left when trailing blank ones are dropped
 --     scan-values      the values are those fields'
-use Prim.Native.Nat.{ℕ, zero, suc, _+_, _-_, _≤_, _<_, zero-le}
-use mathlib.Core.Path.{_≡_, refl, sym, ap, _∙_}
+use Prim.Native.Nat.{ℕ, suc, _+_, _-_, _≤_, _<_}
+use mathlib.Core.Path.{_≡_, refl, sym, _∙_}
 use mathlib.Core.Bool.{Bool, true, false, _&&_, _||_, or-false, or-assoc}
 use mathlib.Core.List.{List, [], _∷_, _++_, append-nil, append-assoc}
 use native.Mathlib.Omega.{arith}
 use native.Mathlib.Numerals.{add-one}
-use borrow.Author.Tests.{lt-ltb, le-ltb}
-use lib.ListN.{length, take, drop, getD, set, replicate, length-set, length-append}
+use borrow.Author.Tests.{lt-ltb}
+use lib.ListN.{length, take, set, length-set}
 use lib.Seq.{take-suc-set, take-set-le}
-use Rattle.sequences.specs.Choices.{below-or-not}
 use Rattle.meaning.specs.Words.{_<?_, if_then_else_, empty}
 use Rattle.meaning.specs.Fields.{trimEnd}
 use Rattle.meaning.specs.Records.{Rule, ruleAt, outsideField, anyOutside, valueOf, valuesFrom}

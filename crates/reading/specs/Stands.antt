@@ -1,21 +1,19 @@
 -- What the code's reading means, and what a record does where the reading stands.
 use Prim.Native.Nat.{ℕ}
-use mathlib.Core.Path.{_≡_, refl}
-use mathlib.Core.Bool.{Bool, true, false, not}
+use mathlib.Core.Path.{_≡_}
+use mathlib.Core.Bool.{false}
 use mathlib.Core.List.{List}
-use Rattle.meaning.specs.Words.{met, first}
 use Rattle.meaning.specs.Fields.{Form, fieldsOf, nameIn}
 use Rattle.meaning.specs.Records as records
-use Rattle.meaning.specs.Blocks.{Time, Block, Card, isGiven, cardOf, opened, repeated}
+use Rattle.meaning.specs.Blocks.{Time, Block, opened}
 use Rattle.meaning.specs.Run as run
 use Rattle.meaning.specs.Run.{BeforeTime, BeforeBlocks, InBlock, Event, Refuse, Go, Open, End, unless, timeRefusal, timeOf, nameRefusal, itemRefusal, withItem, readRecord}
 use Rattle.fields.specs.Spans.{formOf}
 use Rattle.identifiers.specs.declared.Record.{Record}
-use Rattle.identifiers.specs.Heads.{recordIs}
 use Rattle.rules.specs.declared.Table.{Table}
 use Rattle.rules.specs.declared.Table.the-variants as table
 use Rattle.blocks.specs.declared.Open as opens
-use Rattle.blocks.specs.Open.{cardBy, blockOf, repeatedIn}
+use Rattle.blocks.specs.Open.{blockOf, repeatedIn}
 use Rattle.reading.specs.declared.Phase.{Phase}
 use Rattle.reading.specs.declared.Phase.the-variants as phase
 use Rattle.reading.specs.declared.Reading.{Reading}

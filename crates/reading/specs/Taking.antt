@@ -5,7 +5,6 @@ use mathlib.Core.List.{List}
 use lib.ListN.{length, getD}
 use Rattle.meaning.specs.Run.{Go, unless}
 use Rattle.rules.specs.declared.Table.{Table}
-use Rattle.blocks.specs.declared.Stored.{Stored}
 use Rattle.blocks.specs.Open.{nothingOpen, Kept, Taken}
 use Rattle.reading.specs.Scanning.{Scanned}
 use Rattle.reading.specs.Fielding.{LineRead}

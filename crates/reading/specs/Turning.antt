@@ -4,22 +4,22 @@
 --     line-record    a line that holds a record
 --     pass-read      a pass over its fields that met no fault
 --     pass-fault     and one that met one
-use Prim.Native.Nat.{ℕ, zero, suc, _+_, _-_, _≤_, _<_}
+use Prim.Native.Nat.{ℕ, zero, suc, _+_, _-_, _≤_}
 use mathlib.Core.Path.{_≡_, refl, sym, ap, _∙_}
 use mathlib.Core.Bool.{Bool, true, false}
 use mathlib.Core.Logic.{⊎-elim}
-use mathlib.Core.List.{List, [], _∷_, _++_}
+use mathlib.Core.List.{List, [], _∷_}
 use native.Mathlib.Omega.{arith}
-use lib.ListN.{length, take, drop, replicate}
+use lib.ListN.{drop}
 use Rattle.sequences.specs.Parts.{part}
-use Rattle.meaning.specs.Words.{empty, first, met}
-use Rattle.meaning.specs.Lines.{linesOf, foreign}
-use Rattle.meaning.specs.Fields.{Form, trimEnd, fieldsIn, fieldsOf}
+use Rattle.meaning.specs.Words.{met}
+use Rattle.meaning.specs.Lines.{linesOf}
+use Rattle.meaning.specs.Fields.{Form, fieldsIn, fieldsOf}
 use Rattle.meaning.specs.Records as records
 use Rattle.meaning.specs.Records.{ruleAt, faultyField, anyFaulty, badName}
 use Rattle.meaning.specs.Blocks.{Time, Block}
 use Rattle.meaning.specs.Run as run
-use Rattle.meaning.specs.Run.{BeforeTime, InBlock, Event, Refuse, Go, Open, End, Skipped, Faulty, Holds, headOf, readRecord, readBy, readLine, unless, timeRefusal, nameRefusal, itemRefusal}
+use Rattle.meaning.specs.Run.{BeforeTime, InBlock, Event, Refuse, Go, Open, End, Skipped, Holds, readRecord, readBy, readLine, unless, timeRefusal, nameRefusal, itemRefusal}
 use Rattle.lines.specs.First.{FairAt, ForeignAt}
 use Rattle.fields.specs.Spans.{firstPlace, formOf}
 use Rattle.identifiers.specs.declared.Head.{Head}
@@ -39,7 +39,7 @@ use Rattle.limits.specs.ReadOn.{Found, Missing, Met, metBy, readOn}
 use Rattle.limits.specs.Trimming.{faulty-split}
 use Rattle.reading.specs.Scanning.{Scanned, noted, scanFrom}
 use Rattle.reading.specs.Fielding.{LineRead, Fresh, line-read}
-use Rattle.reading.specs.Left.{leftFields, Starts, left-first}
+use Rattle.reading.specs.Left.{leftFields, left-first}
 use Rattle.reading.specs.Stands.{readingIs, readingBy, timeIs, formIn, inForm, phaseOf, itemBy, nameEvent, fieldsEvent}
 use Rattle.reading.specs.Taking.{Ready}
 use Rattle.reading.specs.Getting.{openedIn}

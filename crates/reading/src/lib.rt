@@ -2,7 +2,7 @@
 ghost use mathlib.Core.Path.{_≡_};
 ghost use mathlib.Core.Bool.{false, _||_};
 ghost use lib.ListN.{length, take, getD};
-ghost use Rattle.meaning.specs.Words.{if_then_else_, empty};
+ghost use Rattle.meaning.specs.Words.{if_then_else_};
 ghost use Rattle.meaning.specs.Records.{ruleAt, faultyField};
 ghost use Rattle.rules.specs.Tables.{rulesBy};
 ghost use Rattle.reading.specs.Scanning.{kept, noted};

@@ -6,7 +6,7 @@ use mathlib.Core.Path.{_≡_}
 use mathlib.Core.Bool.{Bool, true, false}
 use mathlib.Core.List.{List, [], _∷_}
 use Rattle.meaning.specs.Records as records
-use Rattle.meaning.specs.Records.{Item, BA, PI, LU, UI, QI, HC, RM, timeRules, rulesOf, ruleAt}
+use Rattle.meaning.specs.Records.{BA, PI, LU, UI, QI, HC, RM, timeRules, rulesOf, ruleAt}
 use Rattle.rules.specs.declared.Table.{Table}
 use Rattle.rules.specs.declared.Table.the-variants.{Time, Area, Rain, Loss, Units, Flow, Joins, Reach}
 use Rattle.rules.specs.declared.Field.{Field}

@@ -1,6 +1,6 @@
 -- Two answers that meet a public function's contract are one.
 use Prim.Native.Nat.{ℕ}
-use mathlib.Core.Path.{_≡_, refl, sym, ap, _∙_}
+use mathlib.Core.Path.{_≡_, refl, sym, _∙_}
 use mathlib.Core.Bool.{Bool, true, false, true≢false}
 use Rattle.sequences.specs.Choices.{one-answer}
 use Rattle.rules.specs.declared.Table.{Table}

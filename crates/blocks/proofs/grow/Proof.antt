@@ -2,7 +2,7 @@
 use borrow.Author.Needs.{needs}
 use borrow.Author.Tests.{lt-ltb, le-ltb}
 use Rattle.meaning.specs.Words.{if_then_else_}
-use Rattle.sequences.specs.Choices.{taken, passed}
+use Rattle.sequences.specs.Choices.{taken}
 use Rattle.blocks.proofs.grow.Statement.{statement}
 use Rattle.blocks.proofs.grow.Tie as tie
 

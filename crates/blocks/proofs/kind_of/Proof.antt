@@ -1,12 +1,12 @@
 -- The bits of the records that are there add up to one number, which tells the kind.
 use Prim.Native.Nat.{ℕ, _+_}
-use mathlib.Core.Path.{_≡_, sym, ap, _∙_}
+use mathlib.Core.Path.{_≡_}
 use mathlib.Core.List.{List}
 use borrow.Author.Tests.{ne-eqb}
 use Rattle.meaning.specs.Words.{if_then_else_}
 use Rattle.meaning.specs.Blocks.{kindOf}
 use Rattle.blocks.specs.Open.{blockOf}
-use Rattle.blocks.specs.Kinds.{bits, kindAt, kind-bits}
+use Rattle.blocks.specs.Kinds.{kindAt, kind-bits}
 use borrow.Author.Needs.{needs}
 use Rattle.blocks.proofs.kind_of.Statement.{statement}
 use Rattle.blocks.proofs.kind_of.Tie as tie

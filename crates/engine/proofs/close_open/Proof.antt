@@ -4,7 +4,6 @@ use mathlib.Core.Path.{_≡_, refl}
 use native.Mathlib.Omega.{arith}
 use Rattle.reading.specs.declared.Phase.the-variants as phase
 use Rattle.closing.specs.Carrying.{held-within}
-use Rattle.engine.specs.Standing.{CountBy}
 use borrow.Author.Needs.{needs}
 use Rattle.engine.proofs.close_open.Statement.{statement}
 use Rattle.engine.proofs.close_open.Tie as tie

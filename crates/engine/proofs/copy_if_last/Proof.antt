@@ -1,5 +1,5 @@
 -- By whether a block was named.
-use mathlib.Core.Path.{_≡_, refl}
+use mathlib.Core.Path.{refl}
 use borrow.Author.Tests.{eq-eqb, ne-eqb}
 use Rattle.sequences.specs.Choices.{taken, passed}
 use borrow.Author.Needs.{needs}

@@ -1,5 +1,4 @@
 -- Each way out is one of the contract: the refusal where the block closes, other than one held, or the deck worked.
-use mathlib.Core.Path.{_≡_}
 use native.Mathlib.Omega.{arith}
 use borrow.Author.Needs.{needs}
 use Rattle.engine.proofs.end_deck.Statement.{statement}

@@ -1,6 +1,5 @@
 -- Each test is the next of the definition.
 use Prim.Native.Nat.{_*_}
-use mathlib.Core.Path.{_≡_}
 use borrow.Author.Tests.{lt-ltb, le-ltb}
 use borrow.Author.Needs.{needs}
 use Rattle.engine.proofs.lacks_room.Statement.{statement}

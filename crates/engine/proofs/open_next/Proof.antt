@@ -1,5 +1,4 @@
 -- Each way out is one of the contract: the refusal where the block closes, a 201st block, or the next block.
-use mathlib.Core.Path.{_≡_}
 use native.Mathlib.Omega.{arith}
 use borrow.Author.Needs.{needs}
 use Rattle.engine.proofs.open_next.Statement.{statement}

@@ -1,5 +1,4 @@
 -- Zeros in each.
-use mathlib.Core.Path.{_≡_}
 use borrow.Author.Needs.{needs}
 use Rattle.engine.proofs.refuse.Statement.{statement}
 use Rattle.engine.proofs.refuse.Tie as tie

@@ -1,5 +1,5 @@
 -- Each event is a turn of the run: a refused line and a missing ZZ stop the walk, KK and ZZ are turns by their own laws.
-use mathlib.Core.Path.{_≡_, sym, _∙_}
+use mathlib.Core.Path.{sym, _∙_}
 use lib.ListN.{length}
 use Rattle.engine.specs.Passing.{walk-missing, walk-refused}
 use Rattle.engine.specs.Moving.{may-close}

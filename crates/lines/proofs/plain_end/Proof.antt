@@ -1,5 +1,5 @@
 -- The loop's end stays the end of the same run: what is left of the run from `i` on is what was left of it from `at` on.
-use Prim.Native.Nat.{_+_, _-_, _≤_}
+use Prim.Native.Nat.{_+_, _-_}
 use mathlib.Core.Path.{_≡_}
 use native.Mathlib.Omega.{arith}
 use lib.ListN.{length, drop}

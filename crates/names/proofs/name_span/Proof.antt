@@ -1,8 +1,7 @@
 -- The name is field 1, where the line reaches it.
 use borrow.Author.Needs.{needs}
-use mathlib.Core.Path.{_∙_, ap, sym}
-use Prim.Native.Nat.{ℕ}
-use Rattle.fields.specs.Spans.{formOf, spanAt, Stands}
+use mathlib.Core.Path.{_∙_, ap}
+use Rattle.fields.specs.Spans.{formOf}
 use Rattle.fields.specs.Turns.{first-stands}
 use Rattle.names.specs.Names.{nameFrom}
 use Rattle.names.specs.Laws.{name-none, name-some}

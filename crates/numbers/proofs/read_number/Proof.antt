@@ -1,10 +1,10 @@
 -- The sign is taken off, and the number behind it is read.
 use borrow.Author.Needs.{needs}
 use native.Mathlib.Omega.{arith}
-use mathlib.Core.Path.{_≡_, _∙_, ap, sym}
+use mathlib.Core.Path.{_∙_, ap}
 use mathlib.Core.List.{List}
-use Prim.Native.Nat.{ℕ, _≤_}
-use lib.ListN.{length, drop, getD}
+use Prim.Native.Nat.{ℕ}
+use lib.ListN.{drop, getD}
 use Rattle.meaning.specs.Words.{_=?_}
 use Rattle.meaning.specs.Numbers.{decimalOf}
 use Rattle.sequences.specs.Parts.{part-to-end}

@@ -1,9 +1,8 @@
 -- The number that was read is the field's, so it is small, and its value is the field's.
 use borrow.Author.Needs.{needs}
-use mathlib.Core.Path.{_≡_, _∙_, ap, sym}
-use Rattle.meaning.specs.Numbers.{inUnits, numberOf}
-use Rattle.numbers.specs.Reading.{numberIs}
-use Rattle.numbers.specs.Fields.{Small, number-small}
+use mathlib.Core.Path.{_∙_, ap}
+use Rattle.meaning.specs.Numbers.{inUnits}
+use Rattle.numbers.specs.Fields.{number-small}
 use Rattle.numbers.proofs.read_value.Statement.{statement}
 use Rattle.numbers.proofs.read_value.Tie as tie
 

@@ -1,18 +1,17 @@
 -- The outer invariant: reading on from here, behind the lines passed, comes to what reading on from the start comes to. The inner one: noting the fields that are
 -- left, behind those noted, gives what noting all of them gives, and the same faults. Each way out of a line is then one law of what the line does.
-use Prim.Native.Nat.{ℕ, _+_, _-_, _≤_, _<_}
-use mathlib.Core.Path.{_≡_, refl, sym, ap, _∙_, subst}
+use Prim.Native.Nat.{ℕ, _+_, _-_, _≤_}
+use mathlib.Core.Path.{_≡_, refl, sym, ap, _∙_}
 use mathlib.Core.Bool.{Bool, true, false}
 use mathlib.Core.List.{List, []}
 use native.Mathlib.Omega.{arith}
 use native.Mathlib.Nat.{le-refl}
 use borrow.Author.Needs.{needs}
-use lib.ListN.{length, take, drop, drop-of-length-le}
-use Rattle.meaning.specs.Words.{if_then_else_}
+use lib.ListN.{length, drop, drop-of-length-le}
 use Rattle.meaning.specs.Lines.{linesOf}
 use Rattle.meaning.specs.Fields.{Form, fieldsOf, nameIn}
-use Rattle.meaning.specs.Records.{anyFaulty, badName}
-use Rattle.meaning.specs.Run.{Event, Refuse, Go, Open, readLine, readRecord}
+use Rattle.meaning.specs.Records.{anyFaulty}
+use Rattle.meaning.specs.Run.{Event, Open, readLine, readRecord}
 use Rattle.lines.specs.First.{FairAt, fair-line, unfair-line}
 use Rattle.fields.specs.Spans.{formOf, firstPlace, Stands}
 use Rattle.fields.specs.Turns.{first-stands}
@@ -29,10 +28,10 @@ use Rattle.reading.specs.declared.Scan.{Scan}
 use Rattle.reading.specs.Scanning.{scanFrom}
 use Rattle.reading.specs.Scans.{scannedOf}
 use Rattle.reading.specs.Fielding.{LineRead}
-use Rattle.reading.specs.Stands.{readingIs, formIn, nameEvent, fieldsEvent}
-use Rattle.reading.specs.Taking.{Ready, Passed}
+use Rattle.reading.specs.Stands.{readingIs, nameEvent, fieldsEvent}
+use Rattle.reading.specs.Taking.{Ready}
 use Rattle.reading.specs.Left.{leftBy, leftFields, left-none, left-few, left-less, left-near}
-use Rattle.reading.specs.Getting.{nameIs, openedIn, FoundIs}
+use Rattle.reading.specs.Getting.{openedIn}
 use Rattle.reading.specs.Turning.{Turn, goes, refuses, opens-block, ends-deck, line-skipped, line-unknown, line-record, foreign-found, none-found, pass-read, pass-fault, fault-event, named-few, in-form, ready-form, form-in, name-bad, name-good, unless-met, unless-none, fault-here, fault-later, scan-later}
 use Rattle.reading.proofs.read_on.Statement.{statement}
 use Rattle.reading.proofs.read_on.Tie as tie

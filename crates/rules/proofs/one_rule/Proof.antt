@@ -1,5 +1,4 @@
 -- Equal rules for the first fields, and none for those behind.
-use borrow.Author.Needs.{needs}
 use lib.ListN.{replicate, getD-replicate, length-replicate, List·getD-eq-default}
 use native.Mathlib.Omega.{arith}
 use Prim.Native.Nat.{_≤_}
