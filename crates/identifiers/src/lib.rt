@@ -1,6 +1,5 @@
 // What a line is, by its first two bytes: a record, a control, nothing to read, or unknown.
 ghost use mathlib.Core.Path.{_≡_};
-ghost use Prim.Native.Nat.{_+_, _*_, _<_};
 ghost use Rattle.meaning.specs.Words.{same};
 ghost use Rattle.meaning.specs.Lines.{allBlank};
 ghost use Rattle.identifiers.specs.Heads.{headIs, plainHead, unread, keyOf};

@@ -1,7 +1,7 @@
 // Numbers as fields hold them: an optional sign, a run of digits, an optional point and a second run. What is read is the value and the places as
 // written; only `in_units` knows how many places a field allows.
 ghost use mathlib.Core.Path.{_≡_};
-ghost use Prim.Native.Nat.{_+_, _*_, _^_, _≤_, _<_};
+ghost use Prim.Native.Nat.{_+_, _^_, _≤_, _<_};
 ghost use lib.ListN.{length};
 ghost use Rattle.meaning.specs.Numbers.{numberOf, decimalOf, inUnits};
 ghost use Rattle.numbers.specs.Reading.{numberIs, valueIs, signLength, digitsFrom, counted};

@@ -53,17 +53,17 @@ zero-words-requires c κs = search needs
 zero-bytes-requires : tie.Need-zero-bytes-requires
 zero-bytes-requires c κs = search needs
 
-slice-aggregate-pass : tie.Need-slice-aggregate-pass
-slice-aggregate-pass c = search needs
+slice-aggregate-walk-deck : tie.Need-slice-aggregate-walk-deck
+slice-aggregate-walk-deck c = search needs
 
-slice-aggregate-pass-2 : tie.Need-slice-aggregate-pass-2
-slice-aggregate-pass-2 c = search needs
+slice-aggregate-walk-deck-2 : tie.Need-slice-aggregate-walk-deck-2
+slice-aggregate-walk-deck-2 c = search needs
 
-slice-aggregate-pass-3 : tie.Need-slice-aggregate-pass-3
-slice-aggregate-pass-3 c = search needs
+slice-aggregate-walk-deck-3 : tie.Need-slice-aggregate-walk-deck-3
+slice-aggregate-walk-deck-3 c = search needs
 
-pass-requires : tie.Need-pass-requires
-pass-requires c κs =
+walk-deck-requires : tie.Need-walk-deck-requires
+walk-deck-requires c κs =
     let z = c .before .before .before .before .before .before .before .before .before .before .before .before .zero-words in
     let y = c .before .before .before .before .before .before .before .before .zero-bytes in
     (c .before .before .before .before .before .before .before .before .before .before .before .before .before .before .before .if1 .left, ((all-zeros (z .kept .0) (z .ensures), all-zeros (y .kept .0) (y .ensures)), record { rain-room = omega arith; unit-room = omega arith; flow-room = omega arith }))
@@ -83,7 +83,7 @@ same-length-9 c = search needs
 returns-3 : tie.Need-returns-3
 returns-3 c =
     let x = c .before .before .before .before .before .before .before .before .before .before .before .before .before .before .before .before .before .before .before .before .before .before .before .before .before .before .before .before .before .before .before .before .before .before .before .before .before .before .before .before .before .args in
-    let k = c .before .before .before .before .before .before .before .before .before .before .before .before .before .before .before .before .before .before .before .before .pass in
+    let k = c .before .before .before .before .before .before .before .before .before .before .before .before .before .before .before .before .before .before .before .before .walk-deck in
     let z = c .before .before .before .before .before .before .before .before .before .before .before .before .before .before .before .before .before .before .before .before .before .before .before .before .before .before .before .before .before .before .before .before .before .zero-words .kept .0 in
     let y = c .before .before .before .before .before .before .before .before .before .before .before .before .before .before .before .before .before .before .before .before .before .before .before .before .before .before .before .before .before .zero-bytes .kept .0 in
     let enough = c .before .before .before .before .before .before .before .before .before .before .before .before .before .before .before .before .before .before .before .before .before .before .before .before .before .before .before .before .before .before .before .before .before .before .before .before .if1 .left in
@@ -94,7 +94,7 @@ returns-3 c =
 
 lacks-room-requires : tie.Need-lacks-room-requires
 lacks-room-requires c κs =
-    let done = rw (c .if3 .left) at (c .before .before .before .before .before .before .before .before .before .before .pass .ensures) in
+    let done = rw (c .if3 .left) at (c .before .before .before .before .before .before .before .before .before .before .walk-deck .ensures) in
     done .few
 
 refuse-requires-4 : tie.Need-refuse-requires-4
@@ -105,7 +105,7 @@ same-length-10 c = search needs
 
 same-length-11 : tie.Need-same-length-11
 same-length-11 c =
-    c .before .before .before .before .before .before .refuse4 .kept .1 .1 .1 .0 ∙ c .before .before .before .before .before .before .before .before .before .before .before .before .before .before .before .before .before .before .before .before .before .before .pass .kept .1 .1 .1 .0 ∙ c .before .before .before .before .before .before .before .before .before .before .before .before .before .before .before .before .before .before .before .before .before .before .before .before .before .before .before .before .before .before .before .before .before .before .before .zero-words .kept .0
+    c .before .before .before .before .before .before .refuse4 .kept .1 .1 .1 .0 ∙ c .before .before .before .before .before .before .before .before .before .before .before .before .before .before .before .before .before .before .before .before .before .before .walk-deck .kept .1 .1 .1 .0 ∙ c .before .before .before .before .before .before .before .before .before .before .before .before .before .before .before .before .before .before .before .before .before .before .before .before .before .before .before .before .before .before .before .before .before .before .before .zero-words .kept .0
 
 same-length-12 : tie.Need-same-length-12
 same-length-12 c = search needs
@@ -113,7 +113,7 @@ same-length-12 c = search needs
 returns-4 : tie.Need-returns-4
 returns-4 c =
     let x = c .before .before .before .before .before .before .before .before .before .before .before .before .before .before .before .before .before .before .before .before .before .before .before .before .before .before .before .before .before .before .before .before .before .before .before .before .before .before .before .before .before .before .before .args in
-    let k = c .before .before .before .before .before .before .before .before .before .before .before .before .before .before .before .before .before .before .before .before .before .before .pass in
+    let k = c .before .before .before .before .before .before .before .before .before .before .before .before .before .before .before .before .before .before .before .before .before .before .walk-deck in
     let z = c .before .before .before .before .before .before .before .before .before .before .before .before .before .before .before .before .before .before .before .before .before .before .before .before .before .before .before .before .before .before .before .before .before .before .before .zero-words .kept .0 in
     let y = c .before .before .before .before .before .before .before .before .before .before .before .before .before .before .before .before .before .before .before .before .before .before .before .before .before .before .before .before .before .before .before .zero-bytes .kept .0 in
     let enough = c .before .before .before .before .before .before .before .before .before .before .before .before .before .before .before .before .before .before .before .before .before .before .before .before .before .before .before .before .before .before .before .before .before .before .before .before .before .before .if1 .left in
@@ -137,7 +137,7 @@ same-length-15 c = search needs
 returns-5 : tie.Need-returns-5
 returns-5 c =
     let x = c .before .before .before .before .before .before .before .before .before .before .before .before .before .before .before .before .before .before .before .before .before .before .before .before .before .before .before .before .before .before .before .before .before .before .before .before .before .args in
-    let k = c .before .before .before .before .before .before .before .before .before .before .before .before .before .before .before .before .pass in
+    let k = c .before .before .before .before .before .before .before .before .before .before .before .before .before .before .before .before .walk-deck in
     let z = c .before .before .before .before .before .before .before .before .before .before .before .before .before .before .before .before .before .before .before .before .before .before .before .before .before .before .before .before .before .zero-words .kept .0 in
     let y = c .before .before .before .before .before .before .before .before .before .before .before .before .before .before .before .before .before .before .before .before .before .before .before .before .before .zero-bytes .kept .0 in
     let enough = c .before .before .before .before .before .before .before .before .before .before .before .before .before .before .before .before .before .before .before .before .before .before .before .before .before .before .before .before .before .before .before .before .if1 .left in
@@ -162,10 +162,10 @@ run-spec =
     returns-2
     zero-words-requires
     zero-bytes-requires
-    slice-aggregate-pass
-    slice-aggregate-pass-2
-    slice-aggregate-pass-3
-    pass-requires
+    slice-aggregate-walk-deck
+    slice-aggregate-walk-deck-2
+    slice-aggregate-walk-deck-3
+    walk-deck-requires
     refuse-requires-3
     same-length-7
     same-length-8

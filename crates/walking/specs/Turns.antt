@@ -6,10 +6,10 @@ use Rattle.reading.specs.declared.Reading.{Reading}
 use Rattle.reading.specs.declared.Name.{Name}
 use Rattle.stack.specs.declared.Stack.{Stack}
 use Rattle.stack.specs.View.{noneHeld}
-use Rattle.engine.specs.Readings.{Begins, Opens}
-use Rattle.engine.specs.declared.State.{State}
-use Rattle.engine.specs.declared.Worked.{Worked}
-use Rattle.engine.specs.declared.Turn.{Turn}
+use Rattle.walking.specs.Readings.{Begins, Opens}
+use Rattle.walking.specs.declared.State.{State}
+use Rattle.walking.specs.declared.Worked.{Worked}
+use Rattle.walking.specs.declared.Turn.{Turn}
 
 pub record StateBegins (s : State) : Type 0 where
   pub reading : Begins (s .reading)

@@ -1,12 +1,12 @@
 -- Each event is a turn of the run: a refused line and a missing ZZ stop the walk, KK and ZZ are turns by their own laws.
 use mathlib.Core.Path.{sym, _∙_}
 use lib.ListN.{length}
-use Rattle.engine.specs.Passing.{walk-missing, walk-refused}
-use Rattle.engine.specs.Moving.{may-close}
-use Rattle.engine.specs.Doing.{kk-turn, zz-turn}
+use Rattle.walking.specs.Passing.{walk-missing, walk-refused}
+use Rattle.walking.specs.Moving.{may-close}
+use Rattle.walking.specs.Doing.{kk-turn, zz-turn}
 use borrow.Author.Needs.{needs}
-use Rattle.engine.proofs.step.Statement.{statement}
-use Rattle.engine.proofs.step.Tie as tie
+use Rattle.walking.proofs.step.Statement.{statement}
+use Rattle.walking.proofs.step.Tie as tie
 
 read-on-requires : tie.Need-read-on-requires
 read-on-requires c κs = search needs

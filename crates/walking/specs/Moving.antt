@@ -25,8 +25,8 @@ use Rattle.reading.specs.Taking.{Ready}
 use Rattle.stack.specs.declared.Stack.{Stack}
 use Rattle.stack.specs.View.{view}
 use Rattle.closing.specs.Carrying.{Carried, carried-none, HeldAfter}
-use Rattle.engine.specs.declared.State.{State}
-use Rattle.engine.specs.Standing.{CountBy, Going, MayClose}
+use Rattle.walking.specs.declared.State.{State}
+use Rattle.walking.specs.Standing.{CountBy, Going, MayClose}
 
 -- before the first result the number of ordinates asked for does not matter
 carried-moved : (named nq nq′ n m : ℕ) (rs : List Result) (ordinates records : List ℕ) → length rs ≡ 0 → Carried named nq n m rs ordinates records → Carried named nq′ n m rs ordinates records

@@ -1,10 +1,10 @@
 -- Field by field.
 use Prim.Native.Nat.{zero-le}
 use mathlib.Core.Path.{refl}
-use Rattle.engine.specs.Readings.{no-values}
+use Rattle.walking.specs.Readings.{no-values}
 use borrow.Author.Needs.{needs}
-use Rattle.engine.proofs.first_reading.Statement.{statement}
-use Rattle.engine.proofs.first_reading.Tie as tie
+use Rattle.walking.proofs.first_reading.Statement.{statement}
+use Rattle.walking.proofs.first_reading.Tie as tie
 
 no-block-requires : tie.Need-no-block-requires
 no-block-requires c κs = search needs

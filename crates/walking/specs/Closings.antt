@@ -23,7 +23,7 @@ use Rattle.stack.specs.View.{view}
 use Rattle.closing.specs.declared.Finished.{Finished}
 use Rattle.closing.specs.Finishing.{resultOf, Finishes}
 use Rattle.closing.specs.Carrying.{Carried, carried-more, HeldAfter, held-more}
-use Rattle.engine.specs.Standing.{standing, CountBy, ClosedBy}
+use Rattle.walking.specs.Standing.{standing, CountBy, ClosedBy}
 
 pub record ClosedWell (named n m : ℕ) (q : run.Reading) (s : Standing) (nq : ℕ) (x : Finished) (work ordinates records : List ℕ) : Type 0 where
   pub held-is : view (x .held) nq work ≡ closed q s .held

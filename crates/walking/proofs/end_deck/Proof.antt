@@ -1,8 +1,8 @@
 -- Each way out is one of the contract: the refusal where the block closes, other than one held, or the deck worked.
 use native.Mathlib.Omega.{arith}
 use borrow.Author.Needs.{needs}
-use Rattle.engine.proofs.end_deck.Statement.{statement}
-use Rattle.engine.proofs.end_deck.Tie as tie
+use Rattle.walking.proofs.end_deck.Statement.{statement}
+use Rattle.walking.proofs.end_deck.Tie as tie
 
 close-open-requires : tie.Need-close-open-requires
 close-open-requires c κs = search needs

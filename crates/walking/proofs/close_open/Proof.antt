@@ -5,8 +5,8 @@ use native.Mathlib.Omega.{arith}
 use Rattle.reading.specs.declared.Phase.the-variants as phase
 use Rattle.closing.specs.Carrying.{held-within}
 use borrow.Author.Needs.{needs}
-use Rattle.engine.proofs.close_open.Statement.{statement}
-use Rattle.engine.proofs.close_open.Tie as tie
+use Rattle.walking.proofs.close_open.Statement.{statement}
+use Rattle.walking.proofs.close_open.Tie as tie
 
 counted : (c : tie.Start) → c .args .r .phase ≡ phase.InBlock → (c .args .blocks ≡ c .pre .before + 1) × (c .args .blocks ≤ 200)
 counted c at = rw at at (c .pre .count)

@@ -1,9 +1,9 @@
 -- Field by field.
 use mathlib.Core.Path.{refl}
-use Rattle.engine.specs.Readings.{no-values}
+use Rattle.walking.specs.Readings.{no-values}
 use borrow.Author.Needs.{needs}
-use Rattle.engine.proofs.open_block.Statement.{statement}
-use Rattle.engine.proofs.open_block.Tie as tie
+use Rattle.walking.proofs.open_block.Statement.{statement}
+use Rattle.walking.proofs.open_block.Tie as tie
 
 no-block-requires : tie.Need-no-block-requires
 no-block-requires c κs = search needs

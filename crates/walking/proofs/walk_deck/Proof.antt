@@ -4,12 +4,12 @@ use mathlib.Core.Path.{_≡_, refl, _∙_}
 use mathlib.Core.List.{List}
 use native.Mathlib.Omega.{arith}
 use lib.ListN.{length}
-use Rattle.engine.specs.declared.State.{State}
-use Rattle.engine.specs.Standing.{Going}
-use Rattle.engine.specs.Starting.{starts}
+use Rattle.walking.specs.declared.State.{State}
+use Rattle.walking.specs.Standing.{Going}
+use Rattle.walking.specs.Starting.{starts}
 use borrow.Author.Needs.{needs}
-use Rattle.engine.proofs.pass.Statement.{statement}
-use Rattle.engine.proofs.pass.Tie as tie
+use Rattle.walking.proofs.walk_deck.Statement.{statement}
+use Rattle.walking.proofs.walk_deck.Tie as tie
 
 -- What holds of the run between two blocks, with the lengths as they were lent.
 record Goes (deck : List ℕ) (named : ℕ) (work₀ ordinates₀ records₀ rain₀ units₀ flow₀ work ordinates records rain units flow : List ℕ) (s : State) : Type 0 where
@@ -100,8 +100,8 @@ loop-again c =
       flow-long = c .before .before .before .before .before .before .before .before .before .before .before .before .before .before .step .kept .1 .1 .1 .1 .1 .1 .1 .1 .0 ∙ i .flow-long;
     }
 
-pub pass-spec : {M : Type 1} → statement M
-pass-spec =
+pub walk-deck-spec : {M : Type 1} → statement M
+walk-deck-spec =
     tie.close
     (tie.spec
     Inv-loop

@@ -3,8 +3,8 @@ use mathlib.Core.Path.{refl}
 use borrow.Author.Tests.{eq-eqb, ne-eqb}
 use Rattle.sequences.specs.Choices.{taken, passed}
 use borrow.Author.Needs.{needs}
-use Rattle.engine.proofs.copy_if_last.Statement.{statement}
-use Rattle.engine.proofs.copy_if_last.Tie as tie
+use Rattle.walking.proofs.copy_if_last.Statement.{statement}
+use Rattle.walking.proofs.copy_if_last.Tie as tie
 
 returns : tie.Need-returns
 returns c =

@@ -5,10 +5,10 @@ use mathlib.Core.List.{List, []}
 use lib.ListN.{length, replicate}
 use Rattle.meaning.specs.Run.{worked}
 use Rattle.closing.specs.Carrying.{carried-none, held-none}
-use Rattle.engine.specs.declared.State.{State}
-use Rattle.engine.specs.Readings.{Roomy}
-use Rattle.engine.specs.Standing.{Going}
-use Rattle.engine.specs.Turns.{StateBegins}
+use Rattle.walking.specs.declared.State.{State}
+use Rattle.walking.specs.Readings.{Roomy}
+use Rattle.walking.specs.Standing.{Going}
+use Rattle.walking.specs.Turns.{StateBegins}
 
 module _ (deck : List ℕ) (named : ℕ) (s : State) (work ordinates records rain units flow : List ℕ) where
   pub starts : StateBegins s → 6_000 ≤ length work → ordinates ≡ replicate (length ordinates) 0 → records ≡ replicate (length records) 0 → Roomy rain units flow

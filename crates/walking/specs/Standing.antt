@@ -24,9 +24,9 @@ use Rattle.blocks.specs.Open.{blockOf}
 use Rattle.closing.specs.declared.Finished.{Finished}
 use Rattle.closing.specs.Finishing.{Finishes}
 use Rattle.closing.specs.Carrying.{Carried, HeldAfter}
-use Rattle.engine.specs.declared.State.{State}
-use Rattle.engine.specs.declared.Worked.{Worked}
-use Rattle.engine.specs.declared.Turn.{Turn}
+use Rattle.walking.specs.declared.State.{State}
+use Rattle.walking.specs.declared.Worked.{Worked}
+use Rattle.walking.specs.declared.Turn.{Turn}
 
 abbrev pub standing : ℕ → List Held → List Result → Standing
 standing blocks held rs = record { blocks = blocks; held = held; results = rs }

@@ -20,11 +20,11 @@ use Rattle.reading.specs.Taking.{Ready}
 use Rattle.reading.specs.Getting.{nameIs, openedIn}
 use Rattle.stack.specs.declared.Stack.{Stack}
 use Rattle.closing.specs.declared.Finished.{Finished}
-use Rattle.engine.specs.declared.State.{State}
-use Rattle.engine.specs.declared.Turn.{Turn}
-use Rattle.engine.specs.Standing.{Going, ClosedBy, TurnIs}
-use Rattle.engine.specs.Turns.{Stops, GoesOn, workedWell}
-use Rattle.engine.specs.Stepping.{copiedLast, kk-refused, kk-too-many, kk-goes, zz-refused, zz-not-one, zz-done}
+use Rattle.walking.specs.declared.State.{State}
+use Rattle.walking.specs.declared.Turn.{Turn}
+use Rattle.walking.specs.Standing.{Going, ClosedBy, TurnIs}
+use Rattle.walking.specs.Turns.{Stops, GoesOn, workedWell}
+use Rattle.walking.specs.Stepping.{copiedLast, kk-refused, kk-too-many, kk-goes, zz-refused, zz-not-one, zz-done}
 
 pub record OpensNext (r : Reading) (name : Name) (at line : ℕ) (held : Stack) (blocks named : ℕ) (t : Turn) (work work′ ordinates ordinates′ records records′ rain units flow : List ℕ) : Type 0 where
   pub closed : Finished

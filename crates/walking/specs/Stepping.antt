@@ -31,13 +31,13 @@ use Rattle.closing.specs.declared.Finished.{Finished}
 use Rattle.closing.specs.Holding.{view-last}
 use Rattle.closing.specs.Finishing.{copiedFirst}
 use Rattle.closing.specs.Carrying.{Carried, carried-named, carried-last}
-use Rattle.engine.specs.declared.State.{State}
-use Rattle.engine.specs.declared.Turn.{Turn}
-use Rattle.engine.specs.Passing.{open-refused, open-too-many, open-goes, end-refused, end-not-one, end-done}
-use Rattle.engine.specs.Standing.{standing, CountBy, Going, DoneIs, ClosedBy}
-use Rattle.engine.specs.Turns.{GoesOn}
-use Rattle.engine.specs.Moving.{Moved, limits, moved}
-use Rattle.engine.specs.Closings.{ClosedWell, closed-number, closed-well}
+use Rattle.walking.specs.declared.State.{State}
+use Rattle.walking.specs.declared.Turn.{Turn}
+use Rattle.walking.specs.Passing.{open-refused, open-too-many, open-goes, end-refused, end-not-one, end-done}
+use Rattle.walking.specs.Standing.{standing, CountBy, Going, DoneIs, ClosedBy}
+use Rattle.walking.specs.Turns.{GoesOn}
+use Rattle.walking.specs.Moving.{Moved, limits, moved}
+use Rattle.walking.specs.Closings.{ClosedWell, closed-number, closed-well}
 
 -- after IT the reading has the time control that its struct says
 timed-by : (p : Phase) (τ : Time) (form : Form) (b : Block) → Timed (readingBy p τ form b) → (timeIn (readingBy p τ form b) ≡ τ) × (formIn (readingBy p τ form b) ≡ form)
