@@ -31,7 +31,7 @@ fn least(a: usize, b: usize) -> usize
     if a < b { a } else { b }
 }
 
-// Reads what comes next, as much as the slice holds at most: 0 bytes only where the input ends.
+// Reads what comes next, as much as the slice holds at most: 0 bytes where the input ends or a read fails.
 fn read_some(s: &mut [u8]) -> usize
     ensures { λ r. ⌜ Counts r (now (s .exit)) ⌝ }
 {
@@ -39,7 +39,7 @@ fn read_some(s: &mut [u8]) -> usize
     io::count(got, s)
 }
 
-// Reads until the slice is full or the input ends; answers how many bytes came.
+// Reads until the slice is full, the input ends or a read fails; answers how many bytes came.
 pub fn read_all(s: &mut [u8]) -> usize
     ensures { λ r. ⌜ Counts r (now (s .exit)) ⌝ }
 {
