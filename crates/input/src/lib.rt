@@ -1,8 +1,8 @@
 // Standard input: all of it, or as bundles hold it, numbers of 4 bytes and decks of a known length.
 ghost use mathlib.Core.Path.{_≡_};
-ghost use Prim.Native.Nat.{_≤_, _<_, min};
+ghost use Prim.Native.Nat.{_≤_, min};
 ghost use Rattle.io.specs.Counts.{Counts};
-ghost use Rattle.input.specs.Kept.{Kept};
+ghost use Rattle.input.specs.Kept.{Kept, InFour};
 use libc::STDIN_FILENO;
 
 pub enum Next {
@@ -10,19 +10,15 @@ pub enum Next {
     End,
 }
 
-fn wide(b: u8) -> usize
-    ensures { λ r. ⌜ r < 256 ⌝ }
+// A number in 4 bytes, the lowest first. End where the input has no more than 3.
+pub fn read_number() -> Next
+    ensures { λ r. ⌜ InFour r ⌝ }
 {
-    b as usize
-}
-
-// A number in 4 bytes, the lowest first.
-pub fn read_number() -> Next {
     let mut b = [0u8; 4];
     if read_all(&mut b) < 4 {
         return Next::End;
     }
-    Next::Number(wide(b[0]) + 256 * (wide(b[1]) + 256 * (wide(b[2]) + 256 * wide(b[3]))))
+    Next::Number(listing::read_le(&b) as usize)
 }
 
 fn least(a: usize, b: usize) -> usize
