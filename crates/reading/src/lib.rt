@@ -35,8 +35,8 @@ pub struct Scan {
 
 // A field noted: whether it is a fault, and what the pass keeps.
 pub struct Noted {
-    pub scan: Scan,
     pub faulty: bool,
+    pub scan: Scan,
 }
 
 // A value of field `k` kept, of ten.
@@ -106,11 +106,11 @@ pub enum Phase {
 
 // Where the reading stands, the form in force, the time control and the open block. The block's lists stand beside it.
 pub struct Reading {
-    pub open: Open,
-    pub minutes: u64,
-    pub ordinates: usize,
     pub phase: Phase,
     pub free: bool,
+    pub minutes: u64,
+    pub ordinates: usize,
+    pub open: Open,
 }
 
 // What a record does where the reading stands: it is out of place; the reading goes on in that form; it names a block; it ends the deck; it has fields.

@@ -18,7 +18,6 @@ use Rattle.reading.specs.declared.Name.{Name}
 use Rattle.reading.specs.Stands.{readingIs, timeIn}
 use Rattle.reading.specs.Taking.{Ready}
 use Rattle.reading.specs.Getting.{nameIs, openedIn}
-use Rattle.stack.specs.declared.Stack.{Stack}
 use Rattle.closing.specs.declared.Finished.{Finished}
 use Rattle.walking.specs.declared.State.{State}
 use Rattle.walking.specs.declared.Turn.{Turn}
@@ -26,23 +25,17 @@ use Rattle.walking.specs.Standing.{Going, ClosedBy, TurnIs}
 use Rattle.walking.specs.Turns.{Stops, GoesOn, workedWell}
 use Rattle.walking.specs.Stepping.{copiedLast, kk-refused, kk-too-many, kk-goes, zz-refused, zz-not-one, zz-done}
 
-pub record OpensNext (r : Reading) (name : Name) (at line : ℕ) (held : Stack) (blocks named : ℕ) (t : Turn) (work work′ ordinates ordinates′ records records′ rain units flow : List ℕ) : Type 0 where
-  pub closed : Finished
-  pub is : ClosedBy (r .phase) r held blocks named closed work work′ ordinates ordinates′ records records′ rain units flow
+pub record OpensNext (r : Reading) (name : Name) (at line : ℕ) (closed : Finished) (blocks : ℕ) (t : Turn) : Type 0 where
   pub refused : (closed .refusal ≡ 0 → ⊥) → Stops (closed .refusal) line t
   pub many : closed .refusal ≡ 0 → 200 ≤ blocks → Stops 14 line t
   pub goes : closed .refusal ≡ 0 → blocks < 200 → GoesOn r (closed .held) name at line blocks t
 
--- the ordinates, once more where the deck is accepted: ordinates″
-pub record EndsDeck (r : Reading) (line : ℕ) (held : Stack) (blocks named : ℕ) (t : Turn) (work work′ ordinates ordinates″ records records′ rain units flow : List ℕ) : Type 0 where
-  pub closed : Finished
-  pub ordinates′ : List ℕ
-  pub long : length ordinates′ ≡ length ordinates
-  pub is : ClosedBy (r .phase) r held blocks named closed work work′ ordinates ordinates′ records records′ rain units flow
+-- the ordinates, once more where the deck is accepted: ordinates′
+pub record EndsDeck (r : Reading) (line : ℕ) (closed : Finished) (blocks named : ℕ) (t : Turn) (work ordinates ordinates′ : List ℕ) : Type 0 where
   pub refused : (closed .refusal ≡ 0 → ⊥) → Stops (closed .refusal) line t
   pub not-one : closed .refusal ≡ 0 → (closed .held .depth ≡ 1 → ⊥) → Stops 15 line t
   pub done : closed .refusal ≡ 0 → closed .held .depth ≡ 1
-      → (t .ended ≡ true) × (t .worked ≡ workedWell (r .ordinates) blocks) × (ordinates″ ≡ copiedLast named (r .ordinates) (part (300 * (closed .held .depth - 1)) (r .ordinates) work′) ordinates′)
+      → (t .ended ≡ true) × (t .worked ≡ workedWell (r .ordinates) blocks) × (ordinates′ ≡ copiedLast named (r .ordinates) (part (300 * (closed .held .depth - 1)) (r .ordinates) work) ordinates)
 
 is-or-not : (a b : ℕ) → (a ≡ b) ⊎ (a ≡ b → ⊥)
 is-or-not zero zero = inl refl
@@ -51,13 +44,13 @@ is-or-not (suc a) zero = inr (λ e. omega arith)
 is-or-not (suc a) (suc b) = ⊎-elim (λ e. inl (ap suc e)) (λ h. inr (λ e. h (omega arith))) (is-or-not a b)
 
 module _ (deck : List ℕ) (named n m : ℕ) (s : State) (work ordinates records rain units flow : List ℕ) (g : Going deck named n m s work ordinates records rain units flow)
-    (r : Reading) (line at : ℕ) (rain′ units′ flow′ : List ℕ) (ready : Ready r rain′ units′ flow′) (t : Turn) (work′ ordinates″ records′ : List ℕ)
-    (lw : length work′ ≡ length work) (lo : length ordinates″ ≡ length ordinates) (lr : length records′ ≡ length records) where
+    (r : Reading) (line at : ℕ) (rain′ units′ flow′ : List ℕ) (ready : Ready r rain′ units′ flow′) (x : Finished) (work′ ordinates′ records′ : List ℕ)
+    (is : ClosedBy (r .phase) r (s .held) (s .blocks) named x work work′ ordinates ordinates′ records records′ rain′ units′ flow′)
+    (lw : length work′ ≡ length work) (lo : length ordinates′ ≡ length ordinates) (lr : length records′ ≡ length records) (t : Turn) where
   pub kk-turn : (name : Name) → readOn (linesOf (drop (s .at) deck)) (readingIs (s .reading) rain units flow) (s .line + 1) ≡ Met (Open (openedIn (readingIs r rain′ units′ flow′) (nameIs name))) (readingIs r rain′ units′ flow′) line (linesOf (drop at deck))
-      → at ≤ length deck → line ≤ at → s .at < at → OpensNext r name at line (s .held) (s .blocks) named t work work′ ordinates ordinates″ records records′ rain′ units′ flow′
-      → TurnIs deck named n m (s .at) t work′ ordinates″ records′ rain′ units′ flow′
+      → at ≤ length deck → line ≤ at → s .at < at → OpensNext r name at line x (s .blocks) t
+      → TurnIs deck named n m (s .at) t work′ ordinates′ records′ rain′ units′ flow′
   kk-turn name found up counted forth o =
-      let x = o .closed in
       let rest = linesOf (drop at deck) in
       ⊎-elim
       (λ z.
@@ -65,35 +58,33 @@ module _ (deck : List ℕ) (named n m : ℕ) (s : State) (work ordinates records
       (λ few.
       let on = o .goes z few in
       rw (on .ended)
-      (kk-goes deck named n m s work ordinates records rain units flow g r line rest rain′ units′ flow′ ready x work′ ordinates″ records′ (o .is) name found at refl up counted few lw lo lr z t on, rw (on .place) forth))
+      (kk-goes deck named n m s work ordinates records rain units flow g r line rest rain′ units′ flow′ ready x work′ ordinates′ records′ is name found at refl up counted few lw lo lr z t on, rw (on .place) forth))
       (λ many.
       let stop = o .many z many in
-      rw (stop .ended, stop .worked) (kk-too-many deck named n m s work ordinates records rain units flow g r line rest rain′ units′ flow′ ready x work′ ordinates″ records′ (o .is) name found z many))
+      rw (stop .ended, stop .worked) (kk-too-many deck named n m s work ordinates records rain units flow g r line rest rain′ units′ flow′ ready x work′ ordinates′ records′ is name found z many))
       (below-or-not (s .blocks) 200))
       (λ some.
       let stop = o .refused some in
-      rw (stop .ended, stop .worked) (kk-refused deck named n m s work ordinates records rain units flow g r line rest rain′ units′ flow′ ready x work′ ordinates″ records′ (o .is) name found some))
+      rw (stop .ended, stop .worked) (kk-refused deck named n m s work ordinates records rain units flow g r line rest rain′ units′ flow′ ready x work′ ordinates′ records′ is name found some))
       (is-or-not (x .refusal) 0)
 
   pub zz-turn : readOn (linesOf (drop (s .at) deck)) (readingIs (s .reading) rain units flow) (s .line + 1) ≡ Met (End (timeIn (readingIs r rain′ units′ flow′))) (readingIs r rain′ units′ flow′) line (linesOf (drop at deck))
-      → EndsDeck r line (s .held) (s .blocks) named t work work′ ordinates ordinates″ records records′ rain′ units′ flow′
+      → (ordinates″ : List ℕ) → EndsDeck r line x (s .blocks) named t work′ ordinates′ ordinates″
       → TurnIs deck named n m (s .at) t work′ ordinates″ records′ rain′ units′ flow′
-  zz-turn found o =
-      let x = o .closed in
+  zz-turn found ordinates″ o =
       let rest = linesOf (drop at deck) in
-      let ordinates′ = o .ordinates′ in
       ⊎-elim
       (λ z.
       ⊎-elim
       (λ one.
       let end = o .done z one in
       rw (end .0, end .1)
-      (zz-done deck named n m s work ordinates records rain units flow g r line rest rain′ units′ flow′ ready x work′ ordinates′ records′ (o .is) found lw (o .long) lr z one ordinates″ (end .2)))
+      (zz-done deck named n m s work ordinates records rain units flow g r line rest rain′ units′ flow′ ready x work′ ordinates′ records′ is found lw lo lr z one ordinates″ (end .2)))
       (λ other.
       let stop = o .not-one z other in
-      rw (stop .ended, stop .worked) (zz-not-one deck named n m s work ordinates records rain units flow g r line rest rain′ units′ flow′ ready x work′ ordinates′ records′ (o .is) found lw (o .long) lr z other))
+      rw (stop .ended, stop .worked) (zz-not-one deck named n m s work ordinates records rain units flow g r line rest rain′ units′ flow′ ready x work′ ordinates′ records′ is found lw lo lr z other))
       (is-or-not (x .held .depth) 1))
       (λ some.
       let stop = o .refused some in
-      rw (stop .ended, stop .worked) (zz-refused deck named n m s work ordinates records rain units flow g r line rest rain′ units′ flow′ ready x work′ ordinates′ records′ (o .is) found some))
+      rw (stop .ended, stop .worked) (zz-refused deck named n m s work ordinates records rain units flow g r line rest rain′ units′ flow′ ready x work′ ordinates′ records′ is found some))
       (is-or-not (x .refusal) 0)

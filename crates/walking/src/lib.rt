@@ -200,87 +200,44 @@ fn copy_if_last(ordinates: &mut [u64], work: &[u64], held: Stack, nq: usize, nam
     closing::copy_last(ordinates, work, held, nq);
 }
 
-// KK: the block that was open is closed, and the next one opened.
-fn open_next(
-    r: Reading,
-    name: Name,
-    at: usize,
-    line: u64,
-    held: Stack,
-    blocks: usize,
-    named: usize,
-    work: &mut [u64],
-    ordinates: &mut [u64],
-    records: &mut [u8],
-    rain: &[u64],
-    units: &[u64],
-    flow: &[u64],
-) -> Turn
+// KK: unless the block that was open was refused where it closed, the next one is opened.
+fn open_next(r: Reading, name: Name, at: usize, line: u64, closed: Finished, blocks: usize) -> Turn
     requires { ⌜ name .letters ≤ 6 ⌝ }
-    requires { ⌜ MayClose r held blocks (now work) (now rain) (now units) (now flow) ⌝ }
-    ensures { λ t. ⌜ OpensNext r name at line held blocks named t (now (work .entry)) (now (work .exit)) (now (ordinates .entry)) (now (ordinates .exit)) (now (records .entry)) (now (records .exit)) (now (rain .entry)) (now (units .entry)) (now (flow .entry)) ⌝ }
+    ensures { λ t. ⌜ OpensNext r name at line closed blocks t ⌝ }
 {
-    let closed = close_open(
-        r,
-        held,
-        blocks,
-        named,
-        work,
-        ordinates,
-        records,
-        rain,
-        units,
-        flow,
-    );
     let refusal = closed.refusal;
-    let next = closed.held;
     if refusal != 0 {
         return stop(refusal, line);
     }
     if blocks >= 200 {
         return stop(14, line);
     }
+    let next = closed.held;
     go_on(r, next, name, at, line, blocks)
 }
 
-// ZZ: the block that was open is closed, and one hydrograph is to be held.
+// ZZ: unless the block that was open was refused where it closed, one hydrograph is to be held.
 fn end_deck(
     r: Reading,
     line: u64,
-    held: Stack,
+    closed: Finished,
     blocks: usize,
     named: usize,
-    work: &mut [u64],
+    work: &[u64],
     ordinates: &mut [u64],
-    records: &mut [u8],
-    rain: &[u64],
-    units: &[u64],
-    flow: &[u64],
 ) -> Turn
-    requires { ⌜ MayClose r held blocks (now work) (now rain) (now units) (now flow) ⌝ }
-    ensures { λ t. ⌜ EndsDeck r line held blocks named t (now (work .entry)) (now (work .exit)) (now (ordinates .entry)) (now (ordinates .exit)) (now (records .entry)) (now (records .exit)) (now (rain .entry)) (now (units .entry)) (now (flow .entry)) ⌝ }
+    requires { ⌜ Fits 1 (r .ordinates) (length (now work)) ⌝ }
+    ensures { λ t. ⌜ EndsDeck r line closed blocks named t (now (work .entry)) (now (ordinates .entry)) (now (ordinates .exit)) ⌝ }
 {
-    let closed = close_open(
-        r,
-        held,
-        blocks,
-        named,
-        work,
-        ordinates,
-        records,
-        rain,
-        units,
-        flow,
-    );
     let refusal = closed.refusal;
-    let next = closed.held;
     if refusal != 0 {
         return stop(refusal, line);
     }
-    if next.depth != 1 {
+    let last = closed.held;
+    if last.depth != 1 {
         return stop(15, line);
     }
-    copy_if_last(ordinates, work, next, r.ordinates, named);
+    copy_if_last(ordinates, work, last, r.ordinates, named);
     finish(r.ordinates, blocks)
 }
 
@@ -308,11 +265,8 @@ fn step(
         Event::Refused(number) => stop(number, got.line),
         Event::Opened => {
             let name = got.name;
-            open_next(
+            let closed = close_open(
                 r,
-                name,
-                got.at,
-                got.line,
                 held,
                 s.blocks,
                 named,
@@ -322,21 +276,24 @@ fn step(
                 rain,
                 units,
                 flow,
-            )
+            );
+            open_next(r, name, got.at, got.line, closed, s.blocks)
         }
-        Event::Ended => end_deck(
-            r,
-            got.line,
-            held,
-            s.blocks,
-            named,
-            work,
-            ordinates,
-            records,
-            rain,
-            units,
-            flow,
-        ),
+        Event::Ended => {
+            let closed = close_open(
+                r,
+                held,
+                s.blocks,
+                named,
+                work,
+                ordinates,
+                records,
+                rain,
+                units,
+                flow,
+            );
+            end_deck(r, got.line, closed, s.blocks, named, work, ordinates)
+        }
         Event::Missing => stop(16, 0),
     }
 }

@@ -1,5 +1,6 @@
 -- Each event is a turn of the run: a refused line and a missing ZZ stop the walk, KK and ZZ are turns by their own laws.
 use mathlib.Core.Path.{sym, _∙_}
+use native.Mathlib.Omega.{arith}
 use lib.ListN.{length}
 use Rattle.walking.specs.Passing.{walk-missing, walk-refused}
 use Rattle.walking.specs.Moving.{may-close}
@@ -20,34 +21,46 @@ stop-requires c κs = search needs
 enum-told : tie.Need-enum-told
 enum-told c = search needs
 
-open-next-requires : tie.Need-open-next-requires
-open-next-requires c κs =
+close-open-requires : tie.Need-close-open-requires
+close-open-requires c κs =
     let s = c .before .before .before .before .before .before .before .before .before .before .before .before .before .before .before .before .before .before .before .before .before .before .before .before .before .before .before .before .before in
-    let x = s .args in
     let q = c .before .before .before .before .before .before .before .before .before .before .before .before .before .before .before .before .before .read-on in
+    let x = s .args in
     let rain′ = q .last .1 .1 .1 .1 .0 in
     let units′ = q .last .1 .1 .1 .1 .1 .0 in
     let flow′ = q .last .1 .1 .1 .1 .1 .1 .0 in
-    let deck = x .deck .now in
     let is = c .before .before .before .before .before .before .before .enum-told .given .1 in
     let o = rw is at (q .ensures .onward) in
-    (o .letters, may-close deck (x .named) (length (x .ordinates .now)) (length (x .records .now)) (x .s) (x .work .now) (x .ordinates .now) (x .records .now) (x .rain .now) (x .units .now) (x .flow .now) (s .pre) _ (q .result .reading) (q .result .line) _ rain′ units′ flow′ (rw is at (q .ensures .found)) (o .ready))
+    may-close (x .deck .now) (x .named) (length (x .ordinates .now)) (length (x .records .now)) (x .s) (x .work .now) (x .ordinates .now) (x .records .now) (x .rain .now) (x .units .now) (x .flow .now) (s .pre) _ (q .result .reading) (q .result .line) _ rain′ units′ flow′ (rw is at (q .ensures .found)) (o .ready)
+
+open-next-requires : tie.Need-open-next-requires
+open-next-requires c κs =
+    let q = c .before .before .before .before .before .before .before .before .before .before .before .before .before .before .before .before .before .before .before .before .before .before .before .before .read-on in
+    let o = rw (c .before .before .before .before .before .before .before .before .before .before .before .before .before .before .enum-told .given .1) at (q .ensures .onward) in
+    o .letters
 
 enum-told-2 : tie.Need-enum-told-2
 enum-told-2 c = search needs
 
-end-deck-requires : tie.Need-end-deck-requires
-end-deck-requires c κs =
+close-open-requires-2 : tie.Need-close-open-requires-2
+close-open-requires-2 c κs =
     let s = c .before .before .before .before .before .before .before .before .before .before .before .before .before .before .before .before .before .before .before .before .before .before .before .before .before .before .before .before in
-    let x = s .args in
     let q = c .before .before .before .before .before .before .before .before .before .before .before .before .before .before .before .before .read-on in
+    let x = s .args in
     let rain′ = q .last .1 .1 .1 .1 .0 in
     let units′ = q .last .1 .1 .1 .1 .1 .0 in
     let flow′ = q .last .1 .1 .1 .1 .1 .1 .0 in
-    let deck = x .deck .now in
     let is = c .before .before .before .before .before .before .enum-told2 .given .1 in
     let o = rw is at (q .ensures .onward) in
-    may-close deck (x .named) (length (x .ordinates .now)) (length (x .records .now)) (x .s) (x .work .now) (x .ordinates .now) (x .records .now) (x .rain .now) (x .units .now) (x .flow .now) (s .pre) _ (q .result .reading) (q .result .line) _ rain′ units′ flow′ (rw is at (q .ensures .found)) (o .ready)
+    may-close (x .deck .now) (x .named) (length (x .ordinates .now)) (length (x .records .now)) (x .s) (x .work .now) (x .ordinates .now) (x .records .now) (x .rain .now) (x .units .now) (x .flow .now) (s .pre) _ (q .result .reading) (q .result .line) _ rain′ units′ flow′ (rw is at (q .ensures .found)) (o .ready)
+
+end-deck-requires : tie.Need-end-deck-requires
+end-deck-requires c κs =
+    let s = c .before .before .before .before .before .before .before .before .before .before .before .before .before .before .before .before .before .before .before .before .before .before .before .before .before .before .before .before .before .before .before .before .before .before .before .before .before in
+    let q = c .before .before .before .before .before .before .before .before .before .before .before .before .before .before .before .before .before .before .before .before .before .before .before .before .before .read-on in
+    let o = rw (c .before .before .before .before .before .before .before .before .before .before .before .before .before .before .before .enum-told2 .given .1) at (q .ensures .onward) in
+    let long = c .before .before .before .before .before .before .before .before .close-open2 .kept .1 .1 .1 .1 .0 in
+    record { deep = omega arith; ordinates = o .ready .few-ordinates; enough = omega (arith, long, s .pre .held .fits .enough) }
 
 enum-told-3 : tie.Need-enum-told-3
 enum-told-3 c = search needs
@@ -88,31 +101,27 @@ same-length-6 : tie.Need-same-length-6
 same-length-6 c = search needs
 
 same-length-7 : tie.Need-same-length-7
-same-length-7 c =
-    c .before .before .before .before .before .before .before .before .before .before .before .before .before .before .before .before .before .before .before .before .before .before .before .before .read-on .kept .1 .1 .1 .1 .0
+same-length-7 c = c .before .before .before .before .before .before .before .before .before .before .before .before .before .before .before .before .before .before .before .before .before .before .before .before .before .read-on .kept .1 .1 .1 .1 .0
 
 same-length-8 : tie.Need-same-length-8
-same-length-8 c =
-    c .before .before .before .before .before .before .before .before .before .before .before .before .before .before .before .before .before .before .before .before .before .before .before .before .read-on .kept .1 .1 .1 .1 .1 .0
+same-length-8 c = c .before .before .before .before .before .before .before .before .before .before .before .before .before .before .before .before .before .before .before .before .before .before .before .before .before .read-on .kept .1 .1 .1 .1 .1 .0
 
 same-length-9 : tie.Need-same-length-9
-same-length-9 c =
-    c .before .before .before .before .before .before .before .before .before .before .before .before .before .before .before .before .before .before .before .before .before .before .before .before .read-on .kept .1 .1 .1 .1 .1 .1 .0
+same-length-9 c = c .before .before .before .before .before .before .before .before .before .before .before .before .before .before .before .before .before .before .before .before .before .before .before .before .before .read-on .kept .1 .1 .1 .1 .1 .1 .0
 
 returns-2 : tie.Need-returns-2
 returns-2 c =
-    let s = c .before .before .before .before .before .before .before .before .before .before .before .before .before .before .before .before .before .before .before .before .before .before .before .before .before .before .before .before .before .before .before .before .before .before .before .before in
+    let s = c .before .before .before .before .before .before .before .before .before .before .before .before .before .before .before .before .before .before .before .before .before .before .before .before .before .before .before .before .before .before .before .before .before .before .before .before .before in
+    let q = c .before .before .before .before .before .before .before .before .before .before .before .before .before .before .before .before .before .before .before .before .before .before .before .before .before .read-on in
     let x = s .args in
-    let q = c .before .before .before .before .before .before .before .before .before .before .before .before .before .before .before .before .before .before .before .before .before .before .before .before .read-on in
     let rain′ = q .last .1 .1 .1 .1 .0 in
     let units′ = q .last .1 .1 .1 .1 .1 .0 in
     let flow′ = q .last .1 .1 .1 .1 .1 .1 .0 in
-    let deck = x .deck .now in
-    let is = c .before .before .before .before .before .before .before .before .before .before .before .before .before .before .enum-told .given .1 in
+    let is = c .before .before .before .before .before .before .before .before .before .before .before .before .before .before .before .enum-told .given .1 in
     let o = rw is at (q .ensures .onward) in
-    let k = c .before .before .before .before .before .before .open-next in
-    kk-turn deck (x .named) (length (x .ordinates .now)) (length (x .records .now)) (x .s) (x .work .now) (x .ordinates .now) (x .records .now) (x .rain .now) (x .units .now) (x .flow .now) (s .pre) (q .result .reading) (q .result .line) (q .result .at) rain′ units′ flow′ (o .ready) (k .result) _ _ _
-    (k .kept .1 .1 .1 .1 .1 .1 .1 .0) (k .kept .1 .1 .1 .1 .1 .1 .1 .1 .0) (k .kept .1 .1 .1 .1 .1 .1 .1 .1 .1 .0) (q .result .name) (rw is at (q .ensures .found)) (o .within) (o .counted) (o .forth) (k .ensures)
+    let k = c .before .before .before .before .before .before .before .close-open in
+    kk-turn (x .deck .now) (x .named) (length (x .ordinates .now)) (length (x .records .now)) (x .s) (x .work .now) (x .ordinates .now) (x .records .now) (x .rain .now) (x .units .now) (x .flow .now) (s .pre) (q .result .reading) (q .result .line) (q .result .at) rain′ units′ flow′ (o .ready) (k .result) _ _ _ (k .ensures)
+    (k .kept .1 .1 .1 .1 .0) (k .kept .1 .1 .1 .1 .1 .0) (k .kept .1 .1 .1 .1 .1 .1 .0) (c .open-next .result) (q .result .name) (rw is at (q .ensures .found)) (o .within) (o .counted) (o .forth) (c .open-next .ensures)
 
 same-length-10 : tie.Need-same-length-10
 same-length-10 c = search needs
@@ -124,30 +133,28 @@ same-length-12 : tie.Need-same-length-12
 same-length-12 c = search needs
 
 same-length-13 : tie.Need-same-length-13
-same-length-13 c =
-    c .before .before .before .before .before .before .before .before .before .before .before .before .before .before .before .before .before .before .before .before .before .before .before .read-on .kept .1 .1 .1 .1 .0
+same-length-13 c = c .before .before .before .before .before .before .before .before .before .before .before .before .before .before .before .before .before .before .before .before .before .before .before .before .before .before .before .before .read-on .kept .1 .1 .1 .1 .0
 
 same-length-14 : tie.Need-same-length-14
-same-length-14 c =
-    c .before .before .before .before .before .before .before .before .before .before .before .before .before .before .before .before .before .before .before .before .before .before .before .read-on .kept .1 .1 .1 .1 .1 .0
+same-length-14 c = c .before .before .before .before .before .before .before .before .before .before .before .before .before .before .before .before .before .before .before .before .before .before .before .before .before .before .before .before .read-on .kept .1 .1 .1 .1 .1 .0
 
 same-length-15 : tie.Need-same-length-15
-same-length-15 c = search needs
+same-length-15 c = c .before .before .before .before .before .before .before .before .before .before .before .before .before .before .before .before .before .before .before .before .before .before .before .before .before .before .before .before .read-on .kept .1 .1 .1 .1 .1 .1 .0
 
 returns-3 : tie.Need-returns-3
 returns-3 c =
-    let s = c .before .before .before .before .before .before .before .before .before .before .before .before .before .before .before .before .before .before .before .before .before .before .before .before .before .before .before .before .before .before .before .before .before .before .before in
+    let s = c .before .before .before .before .before .before .before .before .before .before .before .before .before .before .before .before .before .before .before .before .before .before .before .before .before .before .before .before .before .before .before .before .before .before .before .before .before .before .before .before in
+    let q = c .before .before .before .before .before .before .before .before .before .before .before .before .before .before .before .before .before .before .before .before .before .before .before .before .before .before .before .before .read-on in
     let x = s .args in
-    let q = c .before .before .before .before .before .before .before .before .before .before .before .before .before .before .before .before .before .before .before .before .before .before .before .read-on in
     let rain′ = q .last .1 .1 .1 .1 .0 in
     let units′ = q .last .1 .1 .1 .1 .1 .0 in
     let flow′ = q .last .1 .1 .1 .1 .1 .1 .0 in
-    let deck = x .deck .now in
-    let is = c .before .before .before .before .before .before .before .before .before .before .before .before .before .enum-told2 .given .1 in
+    let is = c .before .before .before .before .before .before .before .before .before .before .before .before .before .before .before .before .before .before .enum-told2 .given .1 in
     let o = rw is at (q .ensures .onward) in
-    let k = c .before .before .before .before .before .before .end-deck in
-    zz-turn deck (x .named) (length (x .ordinates .now)) (length (x .records .now)) (x .s) (x .work .now) (x .ordinates .now) (x .records .now) (x .rain .now) (x .units .now) (x .flow .now) (s .pre) (q .result .reading) (q .result .line) (q .result .at) rain′ units′ flow′ (o .ready) (k .result) _ _ _
-    (k .kept .1 .1 .1 .1 .1 .0) (k .kept .1 .1 .1 .1 .1 .1 .0) (k .kept .1 .1 .1 .1 .1 .1 .1 .0) (rw is at (q .ensures .found)) (k .ensures)
+    let k = c .before .before .before .before .before .before .before .before .before .before .before .close-open2 in
+    let e = c .before .before .end-deck in
+    zz-turn (x .deck .now) (x .named) (length (x .ordinates .now)) (length (x .records .now)) (x .s) (x .work .now) (x .ordinates .now) (x .records .now) (x .rain .now) (x .units .now) (x .flow .now) (s .pre) (q .result .reading) (q .result .line) (q .result .at) rain′ units′ flow′ (o .ready) (k .result) _ _ _ (k .ensures)
+    (k .kept .1 .1 .1 .1 .0) (k .kept .1 .1 .1 .1 .1 .0) (k .kept .1 .1 .1 .1 .1 .1 .0) (e .result) (rw is at (q .ensures .found)) _ (e .ensures)
 
 same-length-16 : tie.Need-same-length-16
 same-length-16 c = search needs
@@ -180,8 +187,10 @@ step-spec =
     enum-known-event
     stop-requires
     enum-told
+    close-open-requires
     open-next-requires
     enum-told-2
+    close-open-requires-2
     end-deck-requires
     enum-told-3
     stop-requires-2
