@@ -2,11 +2,11 @@
 use Prim.Native.Nat.{ℕ, _+_}
 use mathlib.Core.Path.{_≡_, refl, sym, _∙_}
 use mathlib.Core.Bool.{Bool, true, false, _&&_}
-use mathlib.Core.List.{List}
+use mathlib.Core.List.{List, [], _∷_}
 use lib.Dec.{T, eqb, eqb→eq}
 use Rattle.meaning.specs.Words.{_=?_, if_then_else_}
 use Rattle.meaning.specs.Blocks as blocks
-use Rattle.meaning.specs.Blocks.{isGiven, kindBy, kindOf, kindNumber}
+use Rattle.meaning.specs.Blocks.{Card, Absent, Given, isGiven, holds, kindOf, kindNumber}
 use Rattle.blocks.specs.Open.{cardBy, blockOf}
 use Rattle.blocks.specs.declared.Open.{Open}
 use Rattle.blocks.specs.declared.Kind.{Kind}
@@ -49,11 +49,18 @@ both-each f h false = second-of (f true) (f false) h
     second-of : (a b : Bool) → T (a && b) → T b
     second-of true b h = h
 
+abbrev cardFor : Bool → Card
+cardFor true = Given []
+cardFor false = Absent
+
+abbrev kindBy : (ba pi lu ui qi hc rm : Bool) → blocks.Kind
+kindBy ba pi lu ui qi hc rm = kindOf (record { name = []; cards = cardFor ba ∷ cardFor pi ∷ cardFor lu ∷ cardFor ui ∷ cardFor qi ∷ cardFor hc ∷ cardFor rm ∷ [] })
+
 abbrev agrees : (ba pi lu ui qi hc rm : Bool) → Bool
 agrees ba pi lu ui qi hc rm = kindNumber (kindAt (bits ba pi lu ui qi hc rm)) =? kindNumber (kindBy ba pi lu ui qi hc rm)
 
 all-agree : T (both (λ ba. both (λ pi. both (λ lu. both (λ ui. both (λ qi. both (λ hc. both (λ rm. agrees ba pi lu ui qi hc rm))))))))
-unfolding kindBy if_then_else_
+unfolding kindOf holds if_then_else_
 all-agree = tt
 
 -- a kind is told by its number
@@ -87,12 +94,21 @@ kind-agrees ba pi lu ui qi hc rm =
     (both-each (λ p. both (λ l. both (λ u. both (λ q. both (λ h. both (λ r. agrees ba p l u q h r))))))
     (both-each (λ b. both (λ p. both (λ l. both (λ u. both (λ q. both (λ h. both (λ r. agrees b p l u q h r))))))) all-agree ba) pi) lu) ui) qi) hc) rm
 
+given-for : (given : Bool) → isGiven (cardFor given) ≡ given
+given-for true = refl
+given-for false = refl
+
 given-card : (given : Bool) (vs : List ℕ) → isGiven (cardBy given vs) ≡ given
 given-card true vs = refl
 given-card false vs = refl
 
+-- only what is there counts
+by-given : (o : Open) (rain units flow : List ℕ) → kindBy (o .ba) (o .pi) (o .lu) (o .ui) (o .qi) (o .hc) (o .rm) ≡ kindOf (blockOf o rain units flow)
+unfolding kindOf holds
+by-given o rain units flow =
+    rw (given-for (o .ba), given-for (o .pi), given-for (o .lu), given-for (o .ui), given-for (o .qi), given-for (o .hc), given-for (o .rm), given-card (o .ba), given-card (o .pi), given-card (o .lu), given-card (o .ui), given-card (o .qi), given-card (o .hc), given-card (o .rm))
+
 pub kind-bits : (o : Open) (rain units flow : List ℕ) → kindAt (bits (o .ba) (o .pi) (o .lu) (o .ui) (o .qi) (o .hc) (o .rm)) ≡ kindOf (blockOf o rain units flow)
-unfolding kindOf
 kind-bits o rain units flow =
-    rw (given-card (o .ba), given-card (o .pi), given-card (o .lu), given-card (o .ui), given-card (o .qi), given-card (o .hc), given-card (o .rm))
-    (same-number _ _ (eqb→eq _ _ (kind-agrees (o .ba) (o .pi) (o .lu) (o .ui) (o .qi) (o .hc) (o .rm))))
+    same-number _ (kindBy (o .ba) (o .pi) (o .lu) (o .ui) (o .qi) (o .hc) (o .rm)) (eqb→eq _ _ (kind-agrees (o .ba) (o .pi) (o .lu) (o .ui) (o .qi) (o .hc) (o .rm)))
+    ∙ by-given o rain units flow

@@ -20,13 +20,14 @@ abbrev pub blockOf : Open → (rain units flow : List ℕ) → Block
 blockOf o rain units flow =
     record {
       name = take (o .letters) (o .name);
-      ba = cardBy (o .ba) (o .area ∷ []);
-      pi = cardBy (o .pi) (take (o .rains) rain);
-      lu = cardBy (o .lu) (o .initial ∷ o .uniform ∷ 0 ∷ []);
-      ui = cardBy (o .ui) (take (o .units) units);
-      qi = cardBy (o .qi) (take (o .flows) flow);
-      hc = cardBy (o .hc) (o .joins ∷ []);
-      rm = cardBy (o .rm) (o .steps ∷ o .travel ∷ o .weight ∷ []);
+      cards =
+          cardBy (o .ba) (o .area ∷ []) ∷
+          cardBy (o .pi) (take (o .rains) rain) ∷
+          cardBy (o .lu) (o .initial ∷ o .uniform ∷ 0 ∷ []) ∷
+          cardBy (o .ui) (take (o .units) units) ∷
+          cardBy (o .qi) (take (o .flows) flow) ∷
+          cardBy (o .hc) (o .joins ∷ []) ∷
+          cardBy (o .rm) (o .steps ∷ o .travel ∷ o .weight ∷ []) ∷ [];
     }
 
 -- a block before its first record

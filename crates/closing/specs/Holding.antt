@@ -15,7 +15,8 @@ use Rattle.sequences.specs.Bounds.{AllUpTo}
 use Rattle.sequences.specs.Parts.{part, length-part}
 use Rattle.meaning.specs.Words.{_=?_, _≤?_, _<?_, met, first}
 use Rattle.meaning.specs.Water.{tenThousandth, flowLimit, coefA, coefB, coefC}
-use Rattle.meaning.specs.Blocks.{Time, Block, Kind, NoKind, Basin, Inflow, Confluence, Reach, kindNumber, kindOf, takes, value1, value2, value3, valuesOf, Held, total, brokenBy, broken}
+use Rattle.meaning.specs.Records.{BA, HC, PI, QI, UI}
+use Rattle.meaning.specs.Blocks.{Time, Block, Kind, NoKind, Basin, Inflow, Confluence, Reach, kindNumber, kindOf, takes, Held, total, brokenBy, broken, combined, inflowValues, initialLoss, rainValues, reachK, reachSteps, reachX, uniformLoss, unitOrdinates}
 use Rattle.meaning.specs.Results.{peakOf}
 use Rattle.meaning.specs.Run.{heldFor, heldAfter, shapeRefusal}
 use Rattle.limits.specs.Within as limits
@@ -89,11 +90,11 @@ room-left τ b n e =
 
 -- a reach that 12 does not refuse
 reach-sound : (τ : Time) (b : Block) (n : ℕ) → limits.TimeWithin τ → limits.Within b → kindOf b ≡ Reach → n ≤ 20 → shapeRefusal τ b n ≡ 0
-    → routing.Reach (value1 (b .rm)) (τ .minutes) (value2 (b .rm)) (value3 (b .rm))
+    → routing.Reach (reachSteps b) (τ .minutes) (reachK b) (reachX b)
 reach-sound τ b n time block e few sound =
-    let card = block .reach (block-has b e) in
-    let whole = second-zero (met (n <? 1) 10) (met (brokenBy Reach τ (b .rm)) 12) (sym (shape-reach τ b n e few) ∙ sound) in
-    let order = routable (coefA (value1 (b .rm)) (τ .minutes)) (coefB (value2 (b .rm)) (value3 (b .rm))) (coefC (value2 (b .rm)) (value3 (b .rm))) (not-met (brokenBy Reach τ (b .rm)) 11 whole) in
+    let card = limits.reach-limits b block (block-has b (omega (arith, block .long)) e) in
+    let whole = second-zero (met (n <? 1) 10) (met (brokenBy Reach τ b) 12) (sym (shape-reach τ b n e few) ∙ sound) in
+    let order = routable (coefA (reachSteps b) (τ .minutes)) (coefB (reachK b) (reachX b)) (coefC (reachK b) (reachX b)) (not-met (brokenBy Reach τ b) 11 whole) in
     record {
       steps = card .some-steps;
       stepsUp = card .few-steps;
@@ -109,28 +110,28 @@ reach-sound τ b n time block e few sound =
 module _ (τ : Time) (b : Block) (held : List Held) (block : limits.Within b) where
   area-by : (k : Kind) → kindOf b ≡ k → (shapeRefusal τ b (length held) ≡ 0) → total (heldAfter τ b held) .area ≤ total held .area + 999_999
   area-by NoKind e sound = absurd (omega (arith, shape-none τ b (length held) e))
-  area-by Basin e sound = omega (arith, ap areaOf (after-basin τ b held e), block .area 0)
-  area-by Inflow e sound = omega (arith, ap areaOf (after-inflow τ b held e), block .area 0)
-  area-by Confluence e sound = omega (arith, ap areaOf (after-confluence τ b held e), area-added (value1 (b .hc)) held)
+  area-by Basin e sound = omega (arith, ap areaOf (after-basin τ b held e), block .cards BA .high 0)
+  area-by Inflow e sound = omega (arith, ap areaOf (after-inflow τ b held e), block .cards BA .high 0)
+  area-by Confluence e sound = omega (arith, ap areaOf (after-confluence τ b held e), area-added (combined b) held)
   area-by Reach e sound =
-      omega (arith, ap areaOf (after-reach τ b held e), area-routed (value1 (b .rm)) (τ .minutes) (value2 (b .rm)) (value3 (b .rm)) held)
+      omega (arith, ap areaOf (after-reach τ b held e), area-routed (reachSteps b) (τ .minutes) (reachK b) (reachX b) held)
 
   pub area-after : shapeRefusal τ b (length held) ≡ 0 → total (heldAfter τ b held) .area ≤ total held .area + 999_999
   area-after sound = area-by (kindOf b) refl sound
 
-  module _ (time : limits.TimeWithin τ) (few : length (valuesOf (b .ui)) ≤ 150) (deep : length held ≤ 20) (flows : Within held) (sound : shapeRefusal τ b (length held) ≡ 0) where
+  module _ (time : limits.TimeWithin τ) (few : length (unitOrdinates b) ≤ 150) (deep : length held ≤ 20) (flows : Within held) (sound : shapeRefusal τ b (length held) ≡ 0) where
     flow-by : (k : Kind) → kindOf b ≡ k → AllUpTo 18_000_000_000_000_000 (heldFor τ b held .flow)
     flow-by NoKind e k = absurd (omega (arith, shape-none τ b (length held) e))
     flow-by Basin e k =
         rw (for-after τ b held (after-basin τ b held e))
-        (omega (arith, runoff-within (valuesOf (b .ui)) (valuesOf (b .pi)) (value1 (b .lu) * tenThousandth) (τ .minutes * value2 (b .lu)) (τ .ordinates) (record { few = few; unitsUp = block .units; rainsUp = block .rain; intervalsUp = time .few-ordinates }) k))
-    flow-by Inflow e k = rw (for-after τ b held (after-inflow τ b held e)) (omega (arith, inflow-within (valuesOf (b .qi)) (τ .ordinates) (block .flow) k))
+        (omega (arith, runoff-within (unitOrdinates b) (rainValues b) (initialLoss b * tenThousandth) (τ .minutes * uniformLoss b) (τ .ordinates) (record { few = few; unitsUp = block .cards UI .high; rainsUp = block .cards PI .high; intervalsUp = time .few-ordinates }) k))
+    flow-by Inflow e k = rw (for-after τ b held (after-inflow τ b held e)) (omega (arith, inflow-within (inflowValues b) (τ .ordinates) (block .cards QI .high) k))
     flow-by Confluence e k =
-        let joins = block .joins (block-has b e) in
-        rw (for-after τ b held (after-confluence τ b held e)) (omega (arith, total-within (value1 (b .hc)) held flows k, joins .few-joins))
+        let few-joins : combined b ≤ 5 = block .cards HC .high 0 in
+        rw (for-after τ b held (after-confluence τ b held e)) (omega (arith, total-within (combined b) held flows k, few-joins))
     flow-by Reach e k =
         rw (for-after τ b held (after-reach τ b held e))
-        (omega (arith, within-routed (value1 (b .rm)) (τ .minutes) (value2 (b .rm)) (value3 (b .rm)) held (reach-sound τ b (length held) time block e deep sound) flows .0 k))
+        (omega (arith, within-routed (reachSteps b) (τ .minutes) (reachK b) (reachX b) held (reach-sound τ b (length held) time block e deep sound) flows .0 k))
 
     pub flow-within : AllUpTo 18_000_000_000_000_000 (heldFor τ b held .flow)
     flow-within = flow-by (kindOf b) refl

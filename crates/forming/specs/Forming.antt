@@ -10,7 +10,7 @@ use native.Mathlib.Omega.{arith}
 use lib.ListN.{length}
 use Rattle.sequences.specs.Parts.{part, put}
 use Rattle.meaning.specs.Water.{inflowOf, routedOf}
-use Rattle.meaning.specs.Blocks.{Time, Block, Kind, NoKind, Basin, Inflow, Confluence, Reach, kindNumber, kindOf, value1, value2, value3, valuesOf, total}
+use Rattle.meaning.specs.Blocks.{Time, Block, Kind, NoKind, Basin, Inflow, Confluence, Reach, kindNumber, kindOf, total, basinArea, combined, inflowValues, reachK, reachSteps, reachX}
 use Rattle.meaning.specs.Run.{heldAfter, shapeRefusal}
 use Rattle.limits.specs.Within as limits
 use Rattle.blocks.specs.Open.{blockOf, timeOf, Kept}
@@ -24,18 +24,18 @@ use Rattle.forming.specs.declared.Formed.{Formed}
 
 abbrev pub stackBy : Kind → Block → Stack → Stack
 stackBy NoKind b s = s
-stackBy Basin b s = pushed (value1 (b .ba)) s
-stackBy Inflow b s = pushed (value1 (b .ba)) s
-stackBy Confluence b s = joinedStack (value1 (b .hc) - 1) s
+stackBy Basin b s = pushed (basinArea b) s
+stackBy Inflow b s = pushed (basinArea b) s
+stackBy Confluence b s = joinedStack (combined b - 1) s
 stackBy Reach b s = s
 
 abbrev pub wordsBy : Kind → Time → Block → Stack → List ℕ → List ℕ
 wordsBy NoKind τ b s w = w
 wordsBy Basin τ b s w = put (300 * s .depth) (τ .ordinates) w (blockRunoff τ b)
-wordsBy Inflow τ b s w = put (300 * s .depth) (τ .ordinates) w (inflowOf (valuesOf (b .qi)) (τ .ordinates))
-wordsBy Confluence τ b s w = joinedAllWords (value1 (b .hc) - 1) (s .depth) (τ .ordinates) w
+wordsBy Inflow τ b s w = put (300 * s .depth) (τ .ordinates) w (inflowOf (inflowValues b) (τ .ordinates))
+wordsBy Confluence τ b s w = joinedAllWords (combined b - 1) (s .depth) (τ .ordinates) w
 wordsBy Reach τ b s w =
-    put (300 * (s .depth - 1)) (τ .ordinates) w (routedOf (value1 (b .rm)) (τ .minutes) (value2 (b .rm)) (value3 (b .rm)) (part (300 * (s .depth - 1)) (τ .ordinates) w))
+    put (300 * (s .depth - 1)) (τ .ordinates) w (routedOf (reachSteps b) (τ .minutes) (reachK b) (reachX b) (part (300 * (s .depth - 1)) (τ .ordinates) w))
 
 -- a refusal leaves both as they were
 abbrev pub stackAfter : (refusal : ℕ) → Kind → Block → Stack → Stack

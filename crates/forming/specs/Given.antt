@@ -2,15 +2,17 @@
 --     Has            the record that each kind cannot be without
 --     AreaWithin, BasinGiven, InflowGiven, JoinsGiven, ReachGiven     of the code's open block
 --     basin-given, inflow-given, joins-given, reach-given             so it is for a block of that kind that was read
-use Prim.Native.Nat.{ℕ, _≤_, zero-le}
+use Prim.Native.Nat.{ℕ, zero, suc, _+_, _≤_, _<_, zero-le}
 use mathlib.Core.Path.{_≡_, refl}
 use mathlib.Core.Bool.{Bool, true, false, _&&_, not, and-false, false≢true}
 use mathlib.Core.List.{List, [], _∷_}
 use native.Mathlib.Omega.{arith}
-use lib.ListN.{length, take, length-take}
+use lib.ListN.{length, take, getD, length-take}
 use Rattle.sequences.specs.Bounds.{AllUpTo}
 use Rattle.meaning.specs.Words.{if_then_else_}
-use Rattle.meaning.specs.Blocks.{Card, Given, isGiven, valuesOf, value1, Block, Kind, NoKind, Basin, Inflow, Confluence, Reach, kindBy, kindOf}
+use Rattle.sequences.specs.Choices.{both-hold}
+use Rattle.meaning.specs.Records.{Item, BA, PI, LU, UI, QI, HC, RM}
+use Rattle.meaning.specs.Blocks.{Card, Absent, Given, isGiven, valuesOf, value1, value2, value3, Block, cardOf, Kind, NoKind, Basin, Inflow, Confluence, Reach, among, agreesAt, agreesFrom, holds, kindOf}
 use Rattle.limits.specs.Within as limits
 use Rattle.blocks.specs.Open.{cardBy, blockOf, Kept}
 use Rattle.blocks.specs.declared.Open.{Open}
@@ -28,31 +30,31 @@ unfolding if_then_else_
 either P true p q = p refl
 either P false p q = q
 
-third : (a b t c d e f : Bool) → (a && b && t && c && d && e && f) ≡ true → t ≡ true
-third a b true c d e f h = refl
-third a b false c d e f h = absurd (false≢true (simp and-false at h))
+module _ (must may : List Item) where
+  agrees-must : (cs : List Card) (i p : ℕ) → agreesFrom must may i cs ≡ true → p < length cs → among (i + p) must ≡ true → isGiven (getD cs p Absent) ≡ true
+  unfolding if_then_else_
+  agrees-must [] i p h k m = absurd (omega arith)
+  agrees-must (c ∷ cs) i zero h k m =
+      let e : i + 0 ≡ i = omega arith in
+      let n : among i must ≡ true = rw e at m in
+      rw n at (both-hold (agreesAt must may i c) (agreesFrom must may (i + 1) cs) h .0)
+  agrees-must (c ∷ cs) i (suc p) h k m =
+      let e : i + suc p ≡ i + 1 + p = omega arith in
+      agrees-must cs (i + 1) p (both-hold (agreesAt must may i c) (agreesFrom must may (i + 1) cs) h .1) (omega arith) (rw e at m)
 
-sixth : (a b c d e t f : Bool) → (a && b && c && d && e && t && f) ≡ true → t ≡ true
-sixth a b c d e true f h = refl
-sixth a b c d e false f h = absurd (false≢true (simp and-false at h))
+  holds-must : (b : Block) (item : Item) → holds must may b ≡ true → item < length (b .cards) → among item must ≡ true → isGiven (cardOf item b) ≡ true
+  unfolding holds
+  holds-must b item h k m = let z : 0 + item ≡ item = omega arith in agrees-must (b .cards) 0 item h k (rw z m)
 
-seventh : (a b c d e f t : Bool) → (a && b && c && d && e && f && t) ≡ true → t ≡ true
-seventh a b c d e f true h = refl
-seventh a b c d e f false h = absurd (false≢true (simp and-false at h))
-
-kind-has : (ba pi lu ui qi hc rm : Bool) → Has (kindBy ba pi lu ui qi hc rm) lu hc rm
-unfolding kindBy
-kind-has ba pi lu ui qi hc rm =
-    let P : Kind → Type 0 = λ (k : Kind). Has k lu hc rm in
-    either P _ (third ba pi lu ui (not qi) (not hc) (not rm))
-    (either P _ (λ h. tt)
-    (either P _ (sixth (not ba) (not pi) (not lu) (not ui) (not qi) hc (not rm))
-    (either P _ (seventh (not ba) (not pi) (not lu) (not ui) (not qi) (not hc) rm) tt)))
-
-pub block-has : (b : Block) {k : Kind} → kindOf b ≡ k → Has k (isGiven (b .lu)) (isGiven (b .hc)) (isGiven (b .rm))
+pub block-has : (b : Block) → 6 < length (b .cards) → {k : Kind} → kindOf b ≡ k → Has k (isGiven (cardOf LU b)) (isGiven (cardOf HC b)) (isGiven (cardOf RM b))
 unfolding kindOf
-block-has b e =
-    rw e at (kind-has (isGiven (b .ba)) (isGiven (b .pi)) (isGiven (b .lu)) (isGiven (b .ui)) (isGiven (b .qi)) (isGiven (b .hc)) (isGiven (b .rm)))
+block-has b long {k} e =
+    let P : Kind → Type 0 = λ (x : Kind). Has x (isGiven (cardOf LU b)) (isGiven (cardOf HC b)) (isGiven (cardOf RM b)) in
+    let all : P (kindOf b) =
+    either P _ (λ h. holds-must (BA ∷ PI ∷ LU ∷ UI ∷ []) [] b LU h (omega arith) refl)
+    (either P _ (λ h. tt)
+    (either P _ (λ h. holds-must (HC ∷ []) [] b HC h (omega arith) refl) (either P _ (λ h. holds-must (RM ∷ []) [] b RM h (omega arith) refl) tt))) in
+    rw e at all
 
 -- a record of single values that is there, and the values of one that is listed
 card-given : (given : Bool) (vs : List ℕ) → isGiven (cardBy given vs) ≡ true → cardBy given vs ≡ Given vs
@@ -118,36 +120,38 @@ module _ (o : Open) (nq : ℕ) (rain units flow : List ℕ) (within : limits.Wit
   pub name-few : Kept o nq rain units flow → length (blockOf o rain units flow .name) ≤ 6
   name-few kept = simp length-take (omega arith)
 
-  pub units-few : Kept o nq rain units flow → length (valuesOf (blockOf o rain units flow .ui)) ≤ 150
+  pub units-few : Kept o nq rain units flow → length (valuesOf (cardOf UI (blockOf o rain units flow))) ≤ 150
   units-few kept = card-few (o .ui) (o .units) 150 units (kept .few-units)
 
   pub basin-given : Kept o nq rain units flow → kindOf (blockOf o rain units flow) ≡ Basin → BasinGiven o rain units
   basin-given kept e =
-      let loss = card-given (o .lu) (o .initial ∷ o .uniform ∷ 0 ∷ []) (block-has (blockOf o rain units flow) e) in
-      let up : AllUpTo 200_000 (o .initial ∷ o .uniform ∷ 0 ∷ []) = rw loss at (within .loss) in
+      let loss = card-given (o .lu) (o .initial ∷ o .uniform ∷ 0 ∷ []) (block-has (blockOf o rain units flow) (omega arith) e) in
+      let first : o .initial ≤ 200_000 = rw loss at (within .cards LU .high 0) in
+      let second : o .uniform ≤ 200_000 = rw loss at (within .cards LU .high 1) in
       record {
-        area = within .area 0;
+        area = within .cards BA .high 0;
         loss = loss;
-        initial = up 0;
-        uniform = up 1;
-        rains = listed (o .pi) (o .rains) 200_000 rain (kept .no-rains) (omega arith) (within .rain);
-        ordinates = listed (o .ui) (o .units) 9_999_999 units (kept .no-units) (omega arith) (within .units);
+        initial = first;
+        uniform = second;
+        rains = listed (o .pi) (o .rains) 200_000 rain (kept .no-rains) (omega arith) (within .cards PI .high);
+        ordinates = listed (o .ui) (o .units) 9_999_999 units (kept .no-units) (omega arith) (within .cards UI .high);
         few = kept .few-units;
       }
 
   pub inflow-given : Kept o nq rain units flow → InflowGiven o flow
   inflow-given kept =
-      record { area = within .area 0; flows = listed (o .qi) (o .flows) 10_000_000 flow (kept .no-flows) (omega arith) (within .flow) }
+      record { area = within .cards BA .high 0; flows = listed (o .qi) (o .flows) 10_000_000 flow (kept .no-flows) (omega arith) (within .cards QI .high) }
 
   pub joins-given : kindOf (blockOf o rain units flow) ≡ Confluence → JoinsGiven o
   joins-given e =
-      let has = block-has (blockOf o rain units flow) e in
+      let has = block-has (blockOf o rain units flow) (omega arith) e in
       let card = card-given (o .hc) (o .joins ∷ []) has in
-      let h : limits.Joins (Given (o .joins ∷ [])) = rw card at (within .joins has) in
-      record { card = card; some = h .some-joins; few = h .few-joins }
+      let some : 2 ≤ o .joins = rw card at (within .cards HC .low has 0 (omega arith)) in
+      let few : o .joins ≤ 5 = rw card at (within .cards HC .high 0) in
+      record { card = card; some = some; few = few }
 
   pub reach-given : kindOf (blockOf o rain units flow) ≡ Reach → ReachGiven o
   reach-given e =
-      let has = block-has (blockOf o rain units flow) e in
+      let has = block-has (blockOf o rain units flow) (omega arith) e in
       let card = card-given (o .rm) (o .steps ∷ o .travel ∷ o .weight ∷ []) has in
-      record { card = card; within = rw card at (within .reach has) }
+      record { card = card; within = rw card at (limits.reach-limits (blockOf o rain units flow) within has) }

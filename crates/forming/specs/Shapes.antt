@@ -5,15 +5,15 @@ use mathlib.Core.Bool.{false}
 use native.Mathlib.Omega.{arith}
 use borrow.Author.Tests.{le-ltb, lt-leb}
 use Rattle.meaning.specs.Words.{_=?_, _≤?_, _<?_, met, first}
-use Rattle.meaning.specs.Blocks.{Time, Block, Kind, NoKind, Basin, Inflow, Confluence, Reach, kindNumber, kindOf, takesBy, takes, value1, Held, madeBy, made, brokenBy, broken}
+use Rattle.meaning.specs.Blocks.{Time, Block, Kind, NoKind, Basin, Inflow, Confluence, Reach, kindNumber, kindOf, takesBy, takes, Held, madeBy, made, brokenBy, broken, combined}
 use Rattle.meaning.specs.Run.{shapeRefusal}
 
 -- by the kind alone
-takes-by : (b : Block) {k : Kind} → kindOf b ≡ k → takes b ≡ takesBy k (value1 (b .hc))
+takes-by : (b : Block) {k : Kind} → kindOf b ≡ k → takes b ≡ takesBy k b
 unfolding takes
 takes-by b e = rw e
 
-broken-by : (τ : Time) (b : Block) {k : Kind} → kindOf b ≡ k → broken τ b ≡ brokenBy k τ (b .rm)
+broken-by : (τ : Time) (b : Block) {k : Kind} → kindOf b ≡ k → broken τ b ≡ brokenBy k τ b
 unfolding broken
 broken-by τ b e = rw e
 
@@ -31,7 +31,7 @@ module _ (τ : Time) (b : Block) (n : ℕ) where
   shape-none e = rw e
 
   -- a source takes none
-  source-shape : {k : Kind} → kindOf b ≡ k → (kindNumber k =? 0) ≡ false → takesBy k (value1 (b .hc)) ≡ 0 → brokenBy k τ (b .rm) ≡ false → shapeRefusal τ b n ≡ met (20 ≤? n) 11
+  source-shape : {k : Kind} → kindOf b ≡ k → (kindNumber k =? 0) ≡ false → takesBy k b ≡ 0 → brokenBy k τ b ≡ false → shapeRefusal τ b n ≡ met (20 ≤? n) 11
   unfolding shapeRefusal
   source-shape e some none sound =
       let z : n - 0 ≡ n = omega arith in
@@ -44,13 +44,13 @@ module _ (τ : Time) (b : Block) (n : ℕ) where
   shape-inflow e = source-shape e refl refl refl
 
   -- a confluence or a reach takes some, so that no more are held than before
-  pub shape-confluence : kindOf b ≡ Confluence → 1 ≤ value1 (b .hc) → n ≤ 20 → shapeRefusal τ b n ≡ met (n <? value1 (b .hc)) 10
+  pub shape-confluence : kindOf b ≡ Confluence → 1 ≤ combined b → n ≤ 20 → shapeRefusal τ b n ≡ met (n <? combined b) 10
   unfolding shapeRefusal
   shape-confluence e some few =
-      let room : n - value1 (b .hc) < 20 = omega arith in
-      rw (takes-by b e, broken-by τ b e, e, lt-leb 20 (n - value1 (b .hc)) room) (first-zero (met (n <? value1 (b .hc)) 10))
+      let room : n - combined b < 20 = omega arith in
+      rw (takes-by b e, broken-by τ b e, e, lt-leb 20 (n - combined b) room) (first-zero (met (n <? combined b) 10))
 
-  pub shape-reach : kindOf b ≡ Reach → n ≤ 20 → shapeRefusal τ b n ≡ first (met (n <? 1) 10) (met (brokenBy Reach τ (b .rm)) 12)
+  pub shape-reach : kindOf b ≡ Reach → n ≤ 20 → shapeRefusal τ b n ≡ first (met (n <? 1) 10) (met (brokenBy Reach τ b) 12)
   unfolding shapeRefusal
   shape-reach e few =
       let room : n - 1 < 20 = omega arith in

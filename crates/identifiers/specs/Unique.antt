@@ -1,5 +1,5 @@
 -- Two outcomes that meet a contract of this crate are equal: each answer can be told from what it means.
-use Prim.Native.Nat.{ℕ}
+use Prim.Native.Nat.{ℕ, zero, suc}
 use mathlib.Core.Path.{_≡_, refl, sym, _∙_, ap}
 use mathlib.Core.Bool.{Bool}
 use mathlib.Core.List.{List}
@@ -17,13 +17,13 @@ use Rattle.identifiers.specs.declared.Head.the-variants as head
 use Rattle.identifiers.specs.Heads.{itemIs, recordIs, headIs, plainHead}
 
 abbrev itemFor : records.Item → Item
-itemFor records.BA = item.Ba
-itemFor records.PI = item.Pi
-itemFor records.LU = item.Lu
-itemFor records.UI = item.Ui
-itemFor records.QI = item.Qi
-itemFor records.HC = item.Hc
-itemFor records.RM = item.Rm
+itemFor zero = item.Ba
+itemFor (suc zero) = item.Pi
+itemFor (suc (suc zero)) = item.Lu
+itemFor (suc (suc (suc zero))) = item.Ui
+itemFor (suc (suc (suc (suc zero)))) = item.Qi
+itemFor (suc (suc (suc (suc (suc zero))))) = item.Hc
+itemFor (suc (suc (suc (suc (suc (suc n)))))) = item.Rm
 
 abbrev recordFor : records.Record → Record
 recordFor records.ID = kind.Id

@@ -2,20 +2,24 @@
 --     TimeWithin, Within    the limits, for the time control and for the cards of an open block
 --     reading-within        kept by every line
 --     found-within          and so where the reading comes to
-use Prim.Native.Nat.{ℕ, zero, suc, _+_, _-_, _≤_, zero-le}
+use Prim.Native.Nat.{ℕ, zero, suc, _+_, _-_, _≤_, _<_, zero-le}
 use mathlib.Core.Path.{_≡_, refl, _∙_}
-use mathlib.Core.Bool.{Bool, true, false, true≢false, false≢true}
+use mathlib.Core.Bool.{Bool, true, false, _&&_, not, true≢false, false≢true}
 use mathlib.Core.List.{List, [], _∷_, _++_}
 use native.Mathlib.Omega.{arith}
-use lib.ListN.{length, replicate, length-append, length-replicate}
-use Rattle.sequences.specs.Bounds.{AllUpTo}
-use Rattle.meaning.specs.Words.{if_then_else_, met, first}
+use borrow.Author.Tests.{eqb-true, eqb-false}
+use native.Mathlib.Nat.{le-refl, le-trans}
+use mathlib.Core.Logic.{_⊎_, inl, inr}
+use lib.Seq.{set-out, getD-set-same, getD-set-other}
+use lib.ListN.{length, getD, set, replicate, length-set, length-append, length-replicate}
+use Rattle.sequences.specs.Choices.{below-or-not}
+use Rattle.meaning.specs.Words.{_=?_, if_then_else_, met, first}
 use Rattle.meaning.specs.Fields.{Form, fieldsOf, nameIn}
-use Rattle.meaning.specs.Records.{Item, BA, PI, LU, UI, QI, HC, RM, Record, ID, IT, KK, KM, ZZ, Control, Of, Rule, Limited, timeRules, rulesOf, filledUp, valueFields, anyFaulty, anyOutside, valuesFrom, badName}
-use Rattle.meaning.specs.Blocks.{Time, Card, Absent, Given, isGiven, valuesOf, Block, opened, repeated, tooMany, value1, value2, value3}
+use Rattle.meaning.specs.Records.{Item, RM, Row, Once, Listed, table, rowOf, rulesIn, listsIn, Record, ID, IT, KK, KM, ZZ, Control, Of, Rule, ruleAt, timeRules, rulesOf, filledUp, valueFields, anyFaulty, anyOutside, valuesFrom, badName}
+use Rattle.meaning.specs.Blocks.{Time, Card, Absent, Given, isGiven, valuesOf, Block, cardOf, opened, repeated, tooMany, value1, value2, value3}
 use Rattle.meaning.specs.Run.{Head, Faulty, Skipped, Holds, headOf, Reading, BeforeTime, BeforeBlocks, InBlock, Event, Refuse, Go, Open, End, unless, timeRefusal, timeOf, nameRefusal, itemValues, itemRefusal, withItem, readRecord, readBy, readLine}
 use Rattle.limits.specs.Trimming.{faulty-split}
-use Rattle.limits.specs.Limits.{highest, RulesUpTo, values-at-most, values-at-least, values-up-to}
+use Rattle.limits.specs.Limits.{highest, lowest, values-at-most, values-at-least}
 use Rattle.limits.specs.ReadOn.{Found, Missing, Met, metBy, readOn}
 
 pub record TimeWithin (τ : Time) : Type 0 where
@@ -24,10 +28,26 @@ pub record TimeWithin (τ : Time) : Type 0 where
   pub some-ordinates : 1 ≤ τ .ordinates
   pub few-ordinates : τ .ordinates ≤ 300
 
-pub record Joins (hc : Card) : Type 0 where
-  pub some-joins : 2 ≤ value1 hc
-  pub few-joins : value1 hc ≤ 5
+-- The rule of a value of a card, and how many fields a record has that stands once.
+abbrev pub valueRule : Row → ℕ → Rule
+valueRule (Once identifier fields) j = ruleAt fields j
+valueRule (Listed identifier most each) j = each
 
+abbrev pub fieldsIn : Row → ℕ
+fieldsIn (Once identifier fields) = length fields
+fieldsIn (Listed identifier most each) = 0
+
+-- No value is above its limit; those of a record that stands once, where it is there, are not below it either.
+pub record CardWithin (row : Row) (c : Card) : Type 0 where
+  pub high : (j : ℕ) → getD (valuesOf c) j 0 ≤ highest (valueRule row j)
+  pub low : isGiven c ≡ true → (j : ℕ) → j < fieldsIn row → lowest (valueRule row j) ≤ getD (valuesOf c) j 0
+
+pub record Within (b : Block) : Type 0 where
+  pub name : badName (b .name) ≡ false
+  pub long : length (b .cards) ≡ length table
+  pub cards : (item : Item) → CardWithin (rowOf item) (cardOf item b)
+
+-- RM's limits by name
 pub record Reach (rm : Card) : Type 0 where
   pub some-steps : 1 ≤ value1 rm
   pub few-steps : value1 rm ≤ 50
@@ -35,15 +55,10 @@ pub record Reach (rm : Card) : Type 0 where
   pub short-travel : value2 rm ≤ 2400
   pub low-weight : value3 rm ≤ 50
 
-pub record Within (b : Block) : Type 0 where
-  pub name : badName (b .name) ≡ false
-  pub area : AllUpTo 999999 (valuesOf (b .ba))
-  pub rain : AllUpTo 200000 (valuesOf (b .pi))
-  pub loss : AllUpTo 200000 (valuesOf (b .lu))
-  pub units : AllUpTo 9999999 (valuesOf (b .ui))
-  pub flow : AllUpTo 10000000 (valuesOf (b .qi))
-  pub joins : isGiven (b .hc) ≡ true → Joins (b .hc)
-  pub reach : isGiven (b .rm) ≡ true → Reach (b .rm)
+pub reach-limits : (b : Block) → Within b → isGiven (cardOf RM b) ≡ true → Reach (cardOf RM b)
+reach-limits b w given =
+    let r = w .cards RM in
+    record { some-steps = r .low given 0 (omega arith); few-steps = r .high 0; some-travel = r .low given 1 (omega arith); short-travel = r .high 1; low-weight = r .high 2 }
 
 -- a chain of refusals that meets none
 first-none : (m n : ℕ) → first m n ≡ 0 → (m ≡ 0) × (n ≡ 0)
@@ -69,10 +84,10 @@ item-sound τ b item fs e =
     let h = first-none _ _ (g .1) in
     record { once = met-none _ 4 (f .0); formed = met-none _ 5 (g .0); inside = met-none _ 6 (h .0); few = met-none _ 7 (h .1) }
 
-bound-append : (m : ℕ) (xs ys : List ℕ) → AllUpTo m xs → AllUpTo m ys → AllUpTo m (xs ++ ys)
-bound-append m [] ys f g k = g k
+bound-append : (m : ℕ) (xs ys : List ℕ) → ((j : ℕ) → getD xs j 0 ≤ m) → ((j : ℕ) → getD ys j 0 ≤ m) → (j : ℕ) → getD (xs ++ ys) j 0 ≤ m
+bound-append m [] ys f g j = g j
 bound-append m (x ∷ xs) ys f g zero = f 0
-bound-append m (x ∷ xs) ys f g (suc k) = bound-append m xs ys (λ (j : ℕ). f (suc j)) g k
+bound-append m (x ∷ xs) ys f g (suc j) = bound-append m xs ys (λ (i : ℕ). f (suc i)) g j
 
 -- the values of a record with named fields: as many as it has, each by its rule
 module _ (rules : List Rule) (fs : List (List ℕ)) where
@@ -86,75 +101,70 @@ absent : (c : Card) → isGiven c ≡ false → valuesOf c ≡ []
 absent Absent e = refl
 absent (Given vs) e = absurd (true≢false e)
 
-all-zero : (m : ℕ) → AllUpTo m []
-all-zero m k = zero-le
+within-absent : (row : Row) → CardWithin row Absent
+within-absent row = record { high = λ (j : ℕ). zero-le; low = λ z. absurd (false≢true z) }
+
+all-absent : (n item : ℕ) → getD (replicate n Absent) item Absent ≡ Absent
+all-absent zero item = refl
+all-absent (suc n) zero = refl
+all-absent (suc n) (suc item) = all-absent n item
 
 pub within-opened : (name : List ℕ) → badName name ≡ false → Within (opened name)
-within-opened name e =
+within-opened name e = record { name = e; long = length-replicate (length table) Absent; cards = λ (item : ℕ). rw (all-absent (length table) item) (within-absent (rowOf item)) }
+
+-- a card with a line's values behind those it has: one law for every record
+ten-rules : (r : Rule) (j : ℕ) → highest (ruleAt (replicate 10 r) j) ≤ highest r
+ten-rules r j = go 10 j
+  where
+    go : (n j : ℕ) → highest (ruleAt (replicate n r) j) ≤ highest r
+    go zero j = zero-le
+    go (suc n) zero = le-refl (highest r)
+    go (suc n) (suc j) = go n j
+
+pub record SoundCard (row : Row) (c : Card) (fs : List (List ℕ)) : Type 0 where
+  pub once : (not (listsIn row) && isGiven c) ≡ false
+  pub formed : anyFaulty (rulesIn row) 0 fs ≡ false
+  pub inside : anyOutside (rulesIn row) 0 (if listsIn row then fs else filledUp (rulesIn row) fs) ≡ false
+
+within-card : (row : Row) (c : Card) (fs : List (List ℕ)) → SoundCard row c fs → CardWithin row c
+    → CardWithin row (Given (valuesOf c ++ valuesFrom (rulesIn row) 0 (if listsIn row then fs else filledUp (rulesIn row) fs)))
+unfolding if_then_else_
+within-card (Once i rules) c fs s w =
+    let m = faulty-split rules 0 fs (length rules - length fs) ∙ s .formed in
+    let long = filled-long rules fs in
+    let at : (j : ℕ) → 0 + j ≡ j = λ (j : ℕ). omega arith in
+    rw (absent c (s .once))
+    (record {
+      high = λ (j : ℕ). let h = values-at-most rules 0 (filledUp rules fs) (s .inside) j in rw (at j) at h;
+      low = λ z (j : ℕ) (k : j < length rules). let h = values-at-least rules 0 (filledUp rules fs) m (s .inside) j (omega arith) in rw (at j) at h;
+    })
+within-card (Listed i most each) c fs s w =
+    let v : (j : ℕ) → getD (valuesFrom (replicate 10 each) 0 fs) j 0 ≤ highest each =
+    λ (j : ℕ). let h = values-at-most (replicate 10 each) 0 fs (s .inside) j in let t = ten-rules each (0 + j) in le-trans h t in
     record {
-      name = e;
-      area = all-zero 999999;
-      rain = all-zero 200000;
-      loss = all-zero 200000;
-      units = all-zero 9999999;
-      flow = all-zero 10000000;
-      joins = λ z. absurd (false≢true z);
-      reach = λ z. absurd (false≢true z);
+      high = bound-append (highest each) (valuesOf c) (valuesFrom (replicate 10 each) 0 fs) (w .high) v;
+      low = λ z (j : ℕ) (k : j < 0). absurd (omega arith);
     }
 
-ten-rules : (most : ℕ) (r : Rule) → highest r ≤ most → (n : ℕ) → RulesUpTo most (replicate n r)
-ten-rules most r h zero = tt
-ten-rules most r h (suc n) = (h, ten-rules most r h n)
-
--- HC and RM: no second one, so the values are those of this line
-joins-read : (b : Block) (fs : List (List ℕ)) (τ : Time) → Sound τ b HC fs → Joins (Given (valuesOf (b .hc) ++ itemValues HC fs))
-unfolding valueFields if_then_else_
-joins-read b fs τ s =
-    let gs = filledUp (rulesOf HC) fs in
-    let long = filled-long (rulesOf HC) fs in
-    let m = faulty-split (rulesOf HC) 0 fs (1 - length fs) ∙ s .formed in
-    let e = absent (b .hc) (s .once) in
-    record {
-      some-joins = rw e (values-at-least (rulesOf HC) 0 gs m (s .inside) 0 (omega arith));
-      few-joins = rw e (values-at-most (rulesOf HC) 0 gs (s .inside) 0);
-    }
-
-reach-read : (b : Block) (fs : List (List ℕ)) (τ : Time) → Sound τ b RM fs → Reach (Given (valuesOf (b .rm) ++ itemValues RM fs))
-unfolding valueFields if_then_else_
-reach-read b fs τ s =
-    let gs = filledUp (rulesOf RM) fs in
-    let long = filled-long (rulesOf RM) fs in
-    let m = faulty-split (rulesOf RM) 0 fs (3 - length fs) ∙ s .formed in
-    let e = absent (b .rm) (s .once) in
-    record {
-      some-steps = rw e (values-at-least (rulesOf RM) 0 gs m (s .inside) 0 (omega arith));
-      few-steps = rw e (values-at-most (rulesOf RM) 0 gs (s .inside) 0);
-      some-travel = rw e (values-at-least (rulesOf RM) 0 gs m (s .inside) 1 (omega arith));
-      short-travel = rw e (values-at-most (rulesOf RM) 0 gs (s .inside) 1);
-      low-weight = rw e (values-at-most (rulesOf RM) 0 gs (s .inside) 2);
-    }
+each-card : (cs : List Card) (item : ℕ) (c : Card) → ((p : ℕ) → CardWithin (rowOf p) (getD cs p Absent)) → CardWithin (rowOf item) c
+    → (p : ℕ) → CardWithin (rowOf p) (getD (set cs item c) p Absent)
+each-card cs item c all new p = go (p =? item) refl (below-or-not item (length cs))
+  where
+    go : (t : Bool) → (p =? item) ≡ t → (item < length cs) ⊎ (length cs ≤ item) → CardWithin (rowOf p) (getD (set cs item c) p Absent)
+    go true e (inl h) = rw (eqb-true p item e, getD-set-same cs item c Absent h) new
+    go true e (inr h) = rw (set-out cs item c h) (all p)
+    go false e h = rw (getD-set-other cs item p c Absent (eqb-false p item e)) (all p)
 
 pub within-item : (τ : Time) (b : Block) (item : Item) (fs : List (List ℕ)) → Sound τ b item fs → Within b → Within (withItem item fs b)
-unfolding withItem
-within-item τ b BA fs s w =
-    let v = values-up-to 999999 (rulesOf BA) (omega arith, tt) (valueFields BA fs) (s .inside) in
-    record { name = w .name; area = bound-append 999999 (valuesOf (b .ba)) _ (w .area) v; rain = w .rain; loss = w .loss; units = w .units; flow = w .flow; joins = w .joins; reach = w .reach }
-within-item τ b PI fs s w =
-    let v = values-up-to 200000 (rulesOf PI) (ten-rules 200000 (Limited 4 0 200000) (omega arith) 10) (valueFields PI fs) (s .inside) in
-    record { name = w .name; area = w .area; rain = bound-append 200000 (valuesOf (b .pi)) _ (w .rain) v; loss = w .loss; units = w .units; flow = w .flow; joins = w .joins; reach = w .reach }
-within-item τ b LU fs s w =
-    let v = values-up-to 200000 (rulesOf LU) (omega arith, (omega arith, (zero-le, tt))) (valueFields LU fs) (s .inside) in
-    record { name = w .name; area = w .area; rain = w .rain; loss = bound-append 200000 (valuesOf (b .lu)) _ (w .loss) v; units = w .units; flow = w .flow; joins = w .joins; reach = w .reach }
-within-item τ b UI fs s w =
-    let v = values-up-to 9999999 (rulesOf UI) (ten-rules 9999999 (Limited 2 0 9999999) (omega arith) 10) (valueFields UI fs) (s .inside) in
-    record { name = w .name; area = w .area; rain = w .rain; loss = w .loss; units = bound-append 9999999 (valuesOf (b .ui)) _ (w .units) v; flow = w .flow; joins = w .joins; reach = w .reach }
-within-item τ b QI fs s w =
-    let v = values-up-to 10000000 (rulesOf QI) (ten-rules 10000000 (Limited 2 0 10000000) (omega arith) 10) (valueFields QI fs) (s .inside) in
-    record { name = w .name; area = w .area; rain = w .rain; loss = w .loss; units = w .units; flow = bound-append 10000000 (valuesOf (b .qi)) _ (w .flow) v; joins = w .joins; reach = w .reach }
-within-item τ b HC fs s w =
-    record { name = w .name; area = w .area; rain = w .rain; loss = w .loss; units = w .units; flow = w .flow; joins = λ z. joins-read b fs τ s; reach = w .reach }
-within-item τ b RM fs s w =
-    record { name = w .name; area = w .area; rain = w .rain; loss = w .loss; units = w .units; flow = w .flow; joins = w .joins; reach = λ z. reach-read b fs τ s }
+unfolding withItem valueFields
+within-item τ b item fs s w =
+    record {
+      name = w .name;
+      long = length-set (b .cards) item (Given (valuesOf (cardOf item b) ++ itemValues item fs)) ∙ w .long;
+      cards =
+          each-card (b .cards) item _ (w .cards)
+          (within-card (rowOf item) (cardOf item b) fs (record { once = s .once; formed = s .formed; inside = s .inside }) (w .cards item));
+    }
 
 -- WHERE THE READING STANDS
 abbrev pub ReadingWithin : Reading → Type 0

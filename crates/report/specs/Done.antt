@@ -14,7 +14,7 @@ use Rattle.meaning.specs.Fields.{Fixed, fieldsOf, nameIn}
 use Rattle.meaning.specs.Lines.{linesOf}
 use Rattle.meaning.specs.Records.{Record, ID, IT, KK, KM, ZZ, Control, Of}
 use Rattle.meaning.specs.Water.{flowLimit, plus}
-use Rattle.meaning.specs.Blocks.{Time, Block, opened, Kind, NoKind, Basin, Inflow, Confluence, Reach, kindOf, takes, Held, total, made, madeBy, value1, value2, value3}
+use Rattle.meaning.specs.Blocks.{Time, Block, opened, Kind, NoKind, Basin, Inflow, Confluence, Reach, kindOf, takes, Held, total, made, madeBy, reachK, reachSteps, reachX}
 use Rattle.meaning.specs.Results.{Result, peakOf}
 use Rattle.meaning.specs.Run.{Head, Faulty, Skipped, Holds, headOf, Reading, BeforeTime, BeforeBlocks, InBlock, Event, Refuse, Go, Open, End, unless, timeRefusal, timeOf, nameRefusal, itemRefusal, withItem, readRecord, readBy, readLine, heldFor, heldAfter, shapeRefusal, flowRefusal, closingRefusal, Standing, nothingYet, openRefusal, withResult, closed, oneMore, Worked, Done, Step, Stop, Next, stepUnless, act, andThen, walk, worked}
 use Rattle.limits.specs.Within as limits
@@ -54,7 +54,7 @@ short-made NoKind τ b h few p = p
 short-made Basin τ b h few p = let long : length (madeBy Basin τ b h .flow) ≡ τ .ordinates = length-listFrom _ 0 (τ .ordinates) in omega arith
 short-made Inflow τ b h few p = let long : length (madeBy Inflow τ b h .flow) ≡ τ .ordinates = length-listFrom _ 0 (τ .ordinates) in omega arith
 short-made Confluence τ b h few p = p
-short-made Reach τ b h few p = omega (arith, length-routed (value1 (b .rm)) (τ .minutes) (value2 (b .rm)) (value3 (b .rm)) (h .flow))
+short-made Reach τ b h few p = omega (arith, length-routed (reachSteps b) (τ .minutes) (reachK b) (reachX b) (h .flow))
 
 short-for : (τ : Time) (b : Block) (held : List Held) → τ .ordinates ≤ 300 → Short held → length (heldFor τ b held .flow) ≤ 300
 unfolding made

@@ -2,7 +2,7 @@
 use mathlib.Core.Path.{_≡_, sym, _∙_}
 use native.Mathlib.Omega.{arith}
 use borrow.Author.Tests.{lt-ltb, le-ltb}
-use Rattle.meaning.specs.Blocks.{value1}
+use Rattle.meaning.specs.Blocks.{combined}
 use Rattle.blocks.specs.Open.{blockOf, timeOf}
 use Rattle.stack.specs.View.{view}
 use Rattle.stack.specs.Kinds.{after-confluence}
@@ -20,7 +20,7 @@ returns c =
     λ minutes rain units flow e.
     let τ = timeOf minutes (x .nq) in
     let b = blockOf (x .o) rain units flow in
-    let n : value1 (b .hc) ≡ x .o .joins = rw (g .card) in
+    let n : combined b ≡ x .o .joins = rw (g .card) in
     forms-refused τ b (x .held) (x .work .now) e 9
     (shape-confluence τ b (x .held .depth) e (omega arith) (omega arith) ∙ rw (n, lt-ltb (x .held .depth) (x .o .joins) (c .if1 .taken)))
 
@@ -44,7 +44,7 @@ returns-2 c =
     let τ = timeOf minutes (x .nq) in
     let b = blockOf (x .o) rain units flow in
     let v = view (x .held) (x .nq) (x .work .now) in
-    let n : value1 (b .hc) ≡ x .o .joins = rw (g .card) in
+    let n : combined b ≡ x .o .joins = rw (g .card) in
     forms-held τ b (x .held) (x .work .now) e
     (shape-confluence τ b (x .held .depth) e (omega arith) (omega arith) ∙ rw (n, le-ltb (x .held .depth) (x .o .joins) (c .before .before .before .before .if1 .left)))
     (h .0 ∙ rw n) (h .1 .0 ∙ rw n) (h .1 .1 ∙ sym (after-confluence τ b v e ∙ rw n))

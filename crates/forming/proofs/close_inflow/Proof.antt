@@ -4,7 +4,7 @@ use mathlib.Core.Path.{_≡_, sym, _∙_}
 use borrow.Author.Tests.{le-leb, lt-leb}
 use native.Mathlib.Omega.{arith}
 use lib.ListN.{take}
-use Rattle.meaning.specs.Blocks.{valuesOf}
+use Rattle.meaning.specs.Blocks.{inflowValues}
 use Rattle.blocks.specs.Open.{blockOf, timeOf}
 use Rattle.stack.specs.View.{view}
 use Rattle.stack.specs.Kinds.{after-inflow}
@@ -53,7 +53,7 @@ returns-2 c =
     let b = blockOf (x .o) rain units (x .flow .now) in
     let v = view (x .held) (x .nq) (x .work .now) in
     let whole : x .o .flows - 0 ≡ x .o .flows = omega arith in
-    let flow : take (x .o .flows - 0) (x .flow .now) ≡ valuesOf (b .qi) = rw whole (sym (s .pre .1 .flows .values)) in
+    let flow : take (x .o .flows - 0) (x .flow .now) ≡ inflowValues b = rw whole (sym (s .pre .1 .flows .values)) in
     let area = c .before .before .before .before .before .area-of .ensures in
     forms-held τ b (x .held) (x .work .now) e (shape-inflow τ b (x .held .depth) e ∙ rw (lt-leb 20 (x .held .depth) (c .before .before .before .before .before .before .if1 .left)))
     (h .0 ∙ rw area) (h .1 .0 ∙ rw flow) (h .1 .1 ∙ rw (area, flow) (sym (after-inflow τ b v e)))
