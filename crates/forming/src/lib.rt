@@ -2,13 +2,13 @@
 ghost use mathlib.Core.Path.{_≡_};
 ghost use mathlib.Core.List.{List};
 ghost use Prim.Native.Nat.{ℕ, _≤_};
-ghost use Rattle.meaning.specs.Water.{unroutable, coefA, coefB, coefC};
 ghost use Rattle.meaning.specs.Blocks.{Basin, Inflow, Confluence, Reach, kindOf, value1};
 ghost use Rattle.blocks.specs.Open.{blockOf, timeOf};
 ghost use Rattle.forming.specs.Given.{areaCard, AreaWithin, BasinGiven, InflowGiven, JoinsGiven, ReachGiven};
 ghost use Rattle.forming.specs.Forming.{HeldWithin, Closable, Forms};
 use blocks::Kind;
 use blocks::Open;
+use excess::Loss;
 use stack::Stack;
 
 const MOST_HELD: usize = 20;
@@ -55,6 +55,7 @@ fn close_basin(
     let area = area_of(o);
     let initial = units::depth_of(o.initial);
     let uniform = units::uniform_loss(minutes, o.uniform);
+    let loss = Loss { initial, uniform };
     let rains = o.rains;
     let ordinates = o.units;
     let next = stack::hold_basin(
@@ -64,8 +65,7 @@ fn close_basin(
         area,
         &units[0..ordinates],
         &rain[0..rains],
-        initial,
-        uniform,
+        loss,
     );
     Formed {
         refusal: 0,
@@ -119,20 +119,6 @@ fn close_confluence(work: &mut [u64], held: Stack, nq: usize, o: Open) -> Formed
     }
 }
 
-// Whether B is over A or A over C, for `n` steps, the minutes `m` of an interval, and `k` and `x` in hundredths.
-fn is_unroutable(n: u64, m: u64, k: u64, x: u64) -> bool
-    requires { ⌜ (n ≤ 50) × (m ≤ 1_440) × (k ≤ 2_400) × (x ≤ 50) ⌝ }
-    ensures { λ r. ⌜ r ≡ unroutable (coefA n m) (coefB k x) (coefC k x) ⌝ }
-{
-    let a = 250 * n * m;
-    let b = 3 * k * x;
-    let c = 3 * k * (100 - x);
-    if a < b {
-        return true;
-    }
-    c < a
-}
-
 // A reach: the last held is routed, if there is one (10) and the coefficients are in order (12).
 fn close_reach(work: &mut [u64], held: Stack, nq: usize, minutes: u64, o: Open) -> Formed
     requires { ⌜ HeldWithin held nq (now work) ⌝ }
@@ -146,7 +132,7 @@ fn close_reach(work: &mut [u64], held: Stack, nq: usize, minutes: u64, o: Open) 
             held,
         };
     }
-    if is_unroutable(o.steps, minutes, o.travel, o.weight) {
+    if routing::is_unroutable(o.steps, minutes, o.travel, o.weight) {
         return Formed {
             refusal: 12,
             kind: 4,
