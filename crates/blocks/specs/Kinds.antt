@@ -1,14 +1,22 @@
--- The kind of a block, told from one number that has a bit for each record: over all the ways that seven records are there or not, by one computed test.
-use Prim.Native.Nat.{ℕ, _+_}
-use mathlib.Core.Path.{_≡_, refl, sym, _∙_}
+-- The kind of a block, from the records that are there.
+--     kind-by-mask   by their number alone
+--     kind-must      a record that every set of a kind must have is there
+use Prim.Native.Nat.{ℕ, zero, suc, _+_, _<_}
+use mathlib.Core.Path.{_≡_, refl, sym, _∙_, ap}
 use mathlib.Core.Bool.{Bool, true, false, _&&_}
-use mathlib.Core.List.{List, [], _∷_}
-use lib.Dec.{T, eqb, eqb→eq}
+use mathlib.Core.List.{List, [], _∷_, map}
+use native.Mathlib.Omega.{arith}
+use borrow.Author.Tests.{eq-eqb}
+use lib.ListN.{length, getD, length-map}
+use Rattle.sequences.specs.Choices.{both-hold}
 use Rattle.meaning.specs.Words.{_=?_, if_then_else_}
+use Rattle.meaning.specs.Records.{Item}
 use Rattle.meaning.specs.Blocks as blocks
-use Rattle.meaning.specs.Blocks.{Card, Absent, Given, isGiven, holds, kindOf, kindNumber}
-use Rattle.blocks.specs.Open.{cardBy, blockOf}
-use Rattle.blocks.specs.declared.Open.{Open}
+use Rattle.meaning.specs.Blocks.{Card, Absent, isGiven, Block, cardOf, kindNumber, Set, SetOf, sets, among, agreesAt, agreesFrom, holds, kindIn, kindOf}
+use Rattle.records.specs.Rows.{items}
+use Rattle.blocks.specs.Cards.{regions, cardIn, blockOf}
+use Rattle.blocks.specs.Taking.{all-regions}
+use Rattle.blocks.specs.Masks.{maskOf, masks, agrees-mask}
 use Rattle.blocks.specs.declared.Kind.{Kind}
 use Rattle.blocks.specs.declared.Kind.the-variants.{NoKind, Basin, Inflow, Confluence, Reach}
 
@@ -19,96 +27,57 @@ kindMeant Inflow = blocks.Inflow
 kindMeant Confluence = blocks.Confluence
 kindMeant Reach = blocks.Reach
 
-abbrev pub bitOf : Bool → ℕ → ℕ
-bitOf true value = value
-bitOf false value = 0
+-- the words have a card for each record
+pub block-long : (name w : List ℕ) → length (blockOf name w .cards) ≡ items
+block-long name w = length-map (regions w) cardIn ∙ all-regions w
 
-abbrev pub bits : (ba pi lu ui qi hc rm : Bool) → ℕ
-bits ba pi lu ui qi hc rm = bitOf ba 1 + bitOf pi 2 + bitOf lu 4 + bitOf ui 8 + (bitOf qi 16 + bitOf hc 32 + bitOf rm 64)
+abbrev pub kindAt : List Set → ℕ → blocks.Kind
+kindAt [] mask = blocks.NoKind
+kindAt (SetOf kind must may ∷ rest) mask = if among mask (masks must may 0 items) then kind else kindAt rest mask
 
-abbrev pub kindAt : ℕ → blocks.Kind
-kindAt n =
-    if n =? 15 then blocks.Basin else
-    if n =? 16 then blocks.Inflow else
-    if n =? 17 then blocks.Inflow else
-    if n =? 32 then blocks.Confluence else
-    if n =? 64 then blocks.Reach else
-    blocks.NoKind
+by-masks : (ss : List Set) (b : Block) → length (b .cards) ≡ items → kindIn ss b ≡ kindAt ss (maskOf (b .cards))
+unfolding holds
+by-masks [] b long = refl
+by-masks (SetOf kind must may ∷ rest) b long = rw (agrees-mask must may 0 (b .cards), long, by-masks rest b long)
 
--- a test that holds of both truth values holds of each
-abbrev both : (Bool → Bool) → Bool
-both f = f true && f false
+pub kind-by-mask : (name w : List ℕ) → kindOf (blockOf name w) ≡ kindAt sets (maskOf (blockOf name w .cards))
+unfolding kindOf
+kind-by-mask name w = by-masks sets (blockOf name w) (block-long name w)
 
-both-each : (f : Bool → Bool) → T (both f) → (b : Bool) → T (f b)
-both-each f h true = first-of (f true) (f false) h
-  where
-    first-of : (a b : Bool) → T (a && b) → T a
-    first-of true b h = tt
-both-each f h false = second-of (f true) (f false) h
-  where
-    second-of : (a b : Bool) → T (a && b) → T b
-    second-of true b h = h
-
-abbrev cardFor : Bool → Card
-cardFor true = Given []
-cardFor false = Absent
-
-abbrev kindBy : (ba pi lu ui qi hc rm : Bool) → blocks.Kind
-kindBy ba pi lu ui qi hc rm = kindOf (record { name = []; cards = cardFor ba ∷ cardFor pi ∷ cardFor lu ∷ cardFor ui ∷ cardFor qi ∷ cardFor hc ∷ cardFor rm ∷ [] })
-
-abbrev agrees : (ba pi lu ui qi hc rm : Bool) → Bool
-agrees ba pi lu ui qi hc rm = kindNumber (kindAt (bits ba pi lu ui qi hc rm)) =? kindNumber (kindBy ba pi lu ui qi hc rm)
-
-all-agree : T (both (λ ba. both (λ pi. both (λ lu. both (λ ui. both (λ qi. both (λ hc. both (λ rm. agrees ba pi lu ui qi hc rm))))))))
-unfolding kindOf holds if_then_else_
-all-agree = tt
-
--- a kind is told by its number
-kindFrom : ℕ → blocks.Kind
+-- WHAT A KIND HAS
+agrees-must : (must may : List Item) (cs : List Card) (i p : ℕ) → agreesFrom must may i cs ≡ true → p < length cs → among (i + p) must ≡ true → isGiven (getD cs p Absent) ≡ true
 unfolding if_then_else_
-kindFrom n =
-    if n =? 1 then blocks.Basin else
-    if n =? 2 then blocks.Inflow else
-    if n =? 3 then blocks.Confluence else
-    if n =? 4 then blocks.Reach else
-    blocks.NoKind
+agrees-must must may [] i p h k m = absurd (omega arith)
+agrees-must must may (c ∷ cs) i zero h k m =
+    let e : i + 0 ≡ i = omega arith in
+    let n : among i must ≡ true = rw e at m in
+    rw n at (both-hold (agreesAt must may i c) (agreesFrom must may (i + 1) cs) h .0)
+agrees-must must may (c ∷ cs) i (suc p) h k m =
+    let e : i + suc p ≡ i + 1 + p = omega arith in
+    agrees-must must may cs (i + 1) p (both-hold (agreesAt must may i c) (agreesFrom must may (i + 1) cs) h .1) (omega arith) (rw e at m)
 
-from-number : (k : blocks.Kind) → k ≡ kindFrom (kindNumber k)
-unfolding kindFrom if_then_else_
-from-number blocks.NoKind = refl
-from-number blocks.Basin = refl
-from-number blocks.Inflow = refl
-from-number blocks.Confluence = refl
-from-number blocks.Reach = refl
+-- every set of a kind must have the record
+abbrev pub always : List Set → ℕ → Item → Bool
+always [] number item = true
+always (SetOf kind must may ∷ rest) number item = (if kindNumber kind =? number then among item must else true) && always rest number item
 
-same-number : (j k : blocks.Kind) → kindNumber j ≡ kindNumber k → j ≡ k
-same-number j k e = from-number j ∙ rw e (sym (from-number k))
+in-sets : (ss : List Set) (b : Block) (number : ℕ) (item : Item) → (number ≡ 0 → ⊥) → item < length (b .cards) → always ss number item ≡ true → kindNumber (kindIn ss b) ≡ number
+    → isGiven (cardOf item b) ≡ true
+unfolding holds if_then_else_
+in-sets [] b number item some inside all e = absurd (some (sym e))
+in-sets (SetOf kind must may ∷ rest) b number item some inside all e =
+    let both = both-hold (if kindNumber kind =? number then among item must else true) (always rest number item) all in
+    go (agreesFrom must may 0 (b .cards)) refl (both .0) e (λ f. in-sets rest b number item some inside (both .1) f)
+  where
+    go : (t : Bool) → agreesFrom must may 0 (b .cards) ≡ t → (if kindNumber kind =? number then among item must else true) ≡ true
+        → kindNumber (if t then kind else kindIn rest b) ≡ number → (kindNumber (kindIn rest b) ≡ number → isGiven (cardOf item b) ≡ true) → isGiven (cardOf item b) ≡ true
+    go true a own f later =
+        let here : among item must ≡ true = rw (eq-eqb (kindNumber kind) number f) at own in
+        let z : 0 + item ≡ item = omega arith in
+        agrees-must must may (b .cards) 0 item a inside (rw z here)
+    go false a own f later = later f
 
-kind-agrees : (ba pi lu ui qi hc rm : Bool) → T (agrees ba pi lu ui qi hc rm)
-kind-agrees ba pi lu ui qi hc rm =
-    both-each (λ r. agrees ba pi lu ui qi hc r)
-    (both-each (λ h. both (λ r. agrees ba pi lu ui qi h r))
-    (both-each (λ q. both (λ h. both (λ r. agrees ba pi lu ui q h r)))
-    (both-each (λ u. both (λ q. both (λ h. both (λ r. agrees ba pi lu u q h r))))
-    (both-each (λ l. both (λ u. both (λ q. both (λ h. both (λ r. agrees ba pi l u q h r)))))
-    (both-each (λ p. both (λ l. both (λ u. both (λ q. both (λ h. both (λ r. agrees ba p l u q h r))))))
-    (both-each (λ b. both (λ p. both (λ l. both (λ u. both (λ q. both (λ h. both (λ r. agrees b p l u q h r))))))) all-agree ba) pi) lu) ui) qi) hc) rm
-
-given-for : (given : Bool) → isGiven (cardFor given) ≡ given
-given-for true = refl
-given-for false = refl
-
-given-card : (given : Bool) (vs : List ℕ) → isGiven (cardBy given vs) ≡ given
-given-card true vs = refl
-given-card false vs = refl
-
--- only what is there counts
-by-given : (o : Open) (rain units flow : List ℕ) → kindBy (o .ba) (o .pi) (o .lu) (o .ui) (o .qi) (o .hc) (o .rm) ≡ kindOf (blockOf o rain units flow)
-unfolding kindOf holds
-by-given o rain units flow =
-    rw (given-for (o .ba), given-for (o .pi), given-for (o .lu), given-for (o .ui), given-for (o .qi), given-for (o .hc), given-for (o .rm), given-card (o .ba), given-card (o .pi), given-card (o .lu), given-card (o .ui), given-card (o .qi), given-card (o .hc), given-card (o .rm))
-
-pub kind-bits : (o : Open) (rain units flow : List ℕ) → kindAt (bits (o .ba) (o .pi) (o .lu) (o .ui) (o .qi) (o .hc) (o .rm)) ≡ kindOf (blockOf o rain units flow)
-kind-bits o rain units flow =
-    same-number _ (kindBy (o .ba) (o .pi) (o .lu) (o .ui) (o .qi) (o .hc) (o .rm)) (eqb→eq _ _ (kind-agrees (o .ba) (o .pi) (o .lu) (o .ui) (o .qi) (o .hc) (o .rm)))
-    ∙ by-given o rain units flow
+pub kind-must : (b : Block) (k : blocks.Kind) (item : Item) → always sets (kindNumber k) item ≡ true → (kindNumber k ≡ 0 → ⊥) → item < length (b .cards) → kindOf b ≡ k
+    → isGiven (cardOf item b) ≡ true
+unfolding kindOf
+kind-must b k item all some inside e = in-sets sets b (kindNumber k) item some inside all (ap kindNumber e)

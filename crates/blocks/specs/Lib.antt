@@ -1,6 +1,10 @@
--- What the code's open block means, and laws on its lists and its kind.
-pub mod Open
-pub mod Lists
+-- What the open block's words mean, and the laws of reading and writing them.
+pub mod Meant
+pub mod Regions
+pub mod Cards
 pub mod Taking
+pub mod Values
+pub mod Clearing
+pub mod Masks
 pub mod Kinds
 pub mod Unique

@@ -1,25 +1,32 @@
--- Two answers that meet a public function's contract are one. (What `take_values` leaves is one as a block: two blocks that it may leave are the same block.)
+-- Two outcomes that meet a public function's contract are one; of words they are one as the block that they mean, since what stands behind the counts is scratch.
 use Prim.Native.Nat.{ℕ}
-use mathlib.Core.Path.{_≡_, refl, sym, _∙_}
-use mathlib.Core.Bool.{Bool}
+use mathlib.Core.Path.{_≡_, refl, sym, _∙_, ap}
 use mathlib.Core.List.{List}
-use Rattle.sequences.specs.Choices.{one-answer}
-use Rattle.meaning.specs.Blocks as blocks
 use Rattle.meaning.specs.Records.{Item}
-use Rattle.rules.specs.declared.Table.{Table}
-use Rattle.blocks.specs.declared.Open.{Open}
-use Rattle.blocks.specs.declared.Stored.{Stored}
+use Rattle.meaning.specs.Blocks as blocks
+use Rattle.meaning.specs.Blocks.{Block, Time, opened}
 use Rattle.blocks.specs.declared.Kind.{Kind}
 use Rattle.blocks.specs.declared.Kind.the-variants as kind
-use Rattle.blocks.specs.Open.{blockOf, nothingOpen, repeatedIn, TakesList}
+use Rattle.blocks.specs.Cards.{blockOf, blockAfter, Takes}
 use Rattle.blocks.specs.Kinds.{kindMeant}
 
-pub one-nothing : {a b : Open} → a ≡ nothingOpen → b ≡ nothingOpen → a ≡ b
-one-nothing p q = one-answer p q
+-- take_values
+pub one-taken : (item : Item) (nq : ℕ) (vs w : List ℕ) (a b : ℕ) (u v : List ℕ) → Takes item nq vs w a u → Takes item nq vs w b v
+    → (a ≡ b) × ((name : List ℕ) → blockOf name u ≡ blockOf name v)
+one-taken item nq vs w a b u v p q =
+    let τ : Time = record { minutes = 0; ordinates = nq } in
+    let e : a ≡ b = p .number τ refl w ∙ sym (q .number τ refl w) in
+    (e, λ (name : List ℕ). p .block name ∙ ap (λ (r : ℕ). blockAfter r item vs (blockOf name w)) e ∙ sym (q .block name))
 
-pub one-repeated : (o : Open) (t : Table) {a b : Bool} → a ≡ repeatedIn o t → b ≡ repeatedIn o t → a ≡ b
-one-repeated o t p q = one-answer p q
+-- clear
+pub one-cleared : (name u v : List ℕ) → blockOf name u ≡ opened name → blockOf name v ≡ opened name → blockOf name u ≡ blockOf name v
+one-cleared name u v p q = p ∙ sym q
 
+-- is_given, is_repeated, values, value_at
+pub one-answer : {A : Type 0} (f : List ℕ → A) (a b : A) → ((name : List ℕ) → a ≡ f name) → ((name : List ℕ) → b ≡ f name) → (name : List ℕ) → a ≡ b
+one-answer f a b p q name = p name ∙ sym (q name)
+
+-- kind_of
 meantBack : blocks.Kind → Kind
 meantBack blocks.NoKind = kind.NoKind
 meantBack blocks.Basin = kind.Basin
@@ -37,10 +44,3 @@ meant-back kind.Reach = refl
 
 pub one-kind : (k : blocks.Kind) (a b : Kind) → kindMeant a ≡ k → kindMeant b ≡ k → a ≡ b
 one-kind k a b p q = meant-back a ∙ rw (p ∙ sym q) (sym (meant-back b))
-
-pub one-block : (item : Item) (nq : ℕ) (vs : List ℕ) (o : Open) (a b : Stored) (rain units flow rain₁ units₁ flow₁ rain₂ units₂ flow₂ : List ℕ)
-    → TakesList item nq vs o a rain units flow rain₁ units₁ flow₁ → TakesList item nq vs o b rain units flow rain₂ units₂ flow₂
-    → (a .refusal ≡ b .refusal) × (a .refusal ≡ 0 → blockOf (a .open) rain₁ units₁ flow₁ ≡ blockOf (b .open) rain₂ units₂ flow₂)
-one-block item nq vs o a b rain units flow rain₁ units₁ flow₁ rain₂ units₂ flow₂ p q =
-    let e : a .refusal ≡ b .refusal = p .number 0 ∙ sym (q .number 0) in
-    (e, λ z. p .block z ∙ sym (q .block (sym e ∙ z)))

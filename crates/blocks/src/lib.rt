@@ -1,39 +1,29 @@
-// The open block: which records it has and their single values. The values of PI, UI and QI stand beside it, in three lists that the caller lends,
-// so that nothing large is copied for a line.
+// The open block. Its values stand in one slice of words that the caller lends, a region for each record: a head word (0: not there; else 1 and how many values)
+// and the values behind it. What stands behind the counted values is scratch. Its name and the time control go by value.
 ghost use mathlib.Core.Path.{_≡_};
-ghost use mathlib.Core.Bool.{false, not};
+ghost use mathlib.Core.Bool.{false};
 ghost use mathlib.Core.List.{List};
-ghost use Prim.Native.Nat.{ℕ, _+_, _≤_};
-ghost use lib.ListN.{length, take, getD};
+ghost use Prim.Native.Nat.{ℕ, suc, _+_, _≤_, _<_};
+ghost use lib.ListN.{length, take, getD, set};
 ghost use lib.Seq.{paste};
-ghost use Rattle.meaning.specs.Records.{BA, PI, LU, UI, QI, HC, RM};
-ghost use Rattle.meaning.specs.Blocks.{kindOf};
-ghost use Rattle.blocks.specs.Kinds.{bitOf, kindMeant};
-ghost use Rattle.blocks.specs.Open.{blockOf, nothingOpen, repeatedIn, Kept, TakesList, ThirdZero, Taken, spanBy};
-ghost use Rattle.meaning.specs.Words.{_<?_, if_then_else_};
-use rules::Table;
+ghost use Rattle.meaning.specs.Words.{_<?_, met, if_then_else_};
+ghost use Rattle.meaning.specs.Records.{rowOf, table};
+ghost use Rattle.meaning.specs.Blocks.{isGiven, valuesOf, cardOf, repeated, opened, kindOf};
+ghost use Rattle.blocks.specs.Cards.{headIn, countBy, blockOf, Counted, Readable, Takes};
+ghost use Rattle.records.specs.Rows.{items, spanIn, wordsOf};
+ghost use Rattle.blocks.specs.Masks.{bitOf, maskOf};
+ghost use Rattle.blocks.specs.Kinds.{kindMeant};
 
-// The words stand first and the bytes last: with no gaps between them a copy is shorter, and one is made for each line.
-pub struct Open {
+// The time control: minutes of an interval, and how many ordinates.
+pub struct Time {
+    pub minutes: u64,
+    pub ordinates: usize,
+}
+
+// A block's name: its bytes, of which the first `letters` count.
+pub struct Name {
+    pub bytes: [u8; 6],
     pub letters: usize,
-    pub area: u64,
-    pub rains: usize,
-    pub initial: u64,
-    pub uniform: u64,
-    pub units: usize,
-    pub flows: usize,
-    pub joins: u64,
-    pub steps: u64,
-    pub travel: u64,
-    pub weight: u64,
-    pub name: [u8; 6],
-    pub ba: bool,
-    pub pi: bool,
-    pub lu: bool,
-    pub ui: bool,
-    pub qi: bool,
-    pub hc: bool,
-    pub rm: bool,
 }
 
 // The four kinds of a block, or none.
@@ -45,252 +35,147 @@ pub enum Kind {
     Reach,
 }
 
-// A block's values taken: the refusal, 0 for none, and the block.
-pub struct Stored {
-    pub refusal: u64,
-    pub open: Open,
-}
-
-// A block before its first record: no name yet.
-pub fn no_block() -> Open
-    ensures { λ r. ⌜ r ≡ nothingOpen ⌝ }
+// How many values a head counts.
+fn count_by(head: u64) -> usize
+    ensures { λ r. ⌜ r ≡ countBy head ⌝ }
 {
-    Open {
-        name: [0u8; 6],
-        letters: 0,
-        ba: false,
-        area: 0,
-        pi: false,
-        rains: 0,
-        lu: false,
-        initial: 0,
-        uniform: 0,
-        ui: false,
-        units: 0,
-        qi: false,
-        flows: 0,
-        hc: false,
-        joins: 0,
-        rm: false,
-        steps: 0,
-        travel: 0,
-        weight: 0,
+    if head == 0 {
+        return 0;
     }
+    (head - 1) as usize
 }
 
-// Values behind those that a list holds already.
-fn append(list: &mut [u64], at: usize, values: &[u64], n: usize)
-    requires { ⌜ (n ≤ length (now values)) × (at + n ≤ length (now list)) ⌝ }
-    ensures { λ _. ⌜ now (list .exit) ≡ paste (now (list .entry)) at (now (values .entry)) n ⌝ }
+// Values behind those that a region holds already.
+fn append(region: &mut [u64], at: usize, values: &[u64], n: usize)
+    requires { ⌜ (n ≤ length (now values)) × (at + n ≤ length (now region)) ⌝ }
+    ensures { λ _. ⌜ now (region .exit) ≡ paste (now (region .entry)) at (now (values .entry)) n ⌝ }
 {
     let mut i: usize = 0;
     while i < n {
-        list[at + i] = values[i];
+        region[at + i] = values[i];
         i += 1;
     }
 }
 
-// The same where a list may hold `most` values; else the list stays, and the answer is no.
-fn grow(list: &mut [u64], at: usize, values: &[u64], n: usize, most: usize) -> bool
-    requires { ⌜ (n ≤ 10) × (n ≤ length (now values)) × (at ≤ most) × (most ≤ length (now list)) ⌝ }
-    ensures { λ r. ⌜ r ≡ not (most <? (at + n)) ⌝ }
-    ensures { λ _. ⌜ now (list .exit) ≡ (if most <? (at + n) then now (list .entry) else paste (now (list .entry)) at (now (values .entry)) n) ⌝ }
-{
-    if most < at + n {
-        return false;
-    }
-    append(list, at, values, n);
-    true
-}
-
-// PI taken: rain, at most NQ values in a block.
-fn take_rain(o: Open, values: &[u64], n: usize, nq: usize, rain: &mut [u64]) -> Stored
+// A line's values taken into a record's region, which may hold `most` of them; else the region stays, and the answer is 8.
+fn take_in(region: &mut [u64], values: &[u64], n: usize, most: usize) -> u64
     requires { ⌜ (n ≤ 10) × (n ≤ length (now values)) ⌝ }
-    requires { ⌜ (o .rains ≤ nq) × (nq ≤ length (now rain)) ⌝ }
-    ensures { λ r. ⌜ ((units flow : List ℕ) → Kept o nq (now (rain .entry)) units flow → TakesList PI nq (take n (now (values .entry))) o r (now (rain .entry)) units flow (now (rain .exit)) units flow) ⌝ }
+    requires { ⌜ (headIn (now region) ≤ suc most) × (suc most ≤ length (now region)) ⌝ }
+    ensures { λ r. ⌜ r ≡ met (most <? (countBy (headIn (now (region .entry))) + n)) 8 ⌝ }
+    ensures { λ _. ⌜ now (region .exit) ≡ (if most <? (countBy (headIn (now (region .entry))) + n) then now (region .entry) else set (paste (now (region .entry)) (suc (countBy (headIn (now (region .entry))))) (now (values .entry)) n) 0 (suc (countBy (headIn (now (region .entry))) + n))) ⌝ }
 {
-    let at = o.rains;
-    if grow(rain, at, values, n, nq) {
-        let mut r = o;
-        r.pi = true;
-        r.rains = at + n;
-        return Stored {
-            refusal: 0,
-            open: r,
-        };
+    let count = count_by(region[0]);
+    if most < count + n {
+        return 8;
     }
-    Stored {
-        refusal: 8,
-        open: o,
-    }
+    append(region, count + 1, values, n);
+    region[0] = (count + n + 1) as u64;
+    0
 }
 
-// UI taken: unit ordinates, at most 150 in a block.
-fn take_units(o: Open, values: &[u64], n: usize, nq: usize, units: &mut [u64]) -> Stored
-    requires { ⌜ (n ≤ 10) × (n ≤ length (now values)) ⌝ }
-    requires { ⌜ (o .units ≤ 150) × (150 ≤ length (now units)) ⌝ }
-    ensures { λ r. ⌜ ((rain flow : List ℕ) → Kept o nq rain (now (units .entry)) flow → TakesList UI nq (take n (now (values .entry))) o r rain (now (units .entry)) flow rain (now (units .exit)) flow) ⌝ }
+// A line's values taken into the open block, or refused by 8. A record that stands once is not there yet.
+pub fn take_values(cards: &mut [u64], item: usize, values: &[u64], count: usize, nq: usize) -> u64
+    requires { ⌜ (item < items) × (count ≤ 10) × (10 ≤ length (now values)) ⌝ }
+    requires { ⌜ ((name : List ℕ) → repeated item (blockOf name (now cards)) ≡ false) ⌝ }
+    requires { ⌜ Counted nq (now cards) ⌝ }
+    ensures { λ r. ⌜ Takes item nq (take (spanIn (rowOf item) count) (now (values .entry))) (now (cards .entry)) r (now (cards .exit)) ⌝ }
 {
-    let at = o.units;
-    if grow(units, at, values, n, 150) {
-        let mut r = o;
-        r.ui = true;
-        r.units = at + n;
-        return Stored {
-            refusal: 0,
-            open: r,
-        };
-    }
-    Stored {
-        refusal: 8,
-        open: o,
-    }
+    let from = records::start_of(item);
+    let to = records::start_of(item + 1);
+    let room = to - from - 1;
+    let way = records::way_of(item);
+    let n = records::span_by(way, room, count);
+    let most = records::most_by(way, room, nq);
+    take_in(&mut cards[from..to], values, n, most)
 }
 
-// QI taken: inflow, at most NQ values in a block.
-fn take_flow(o: Open, values: &[u64], n: usize, nq: usize, flow: &mut [u64]) -> Stored
-    requires { ⌜ (n ≤ 10) × (n ≤ length (now values)) ⌝ }
-    requires { ⌜ (o .flows ≤ nq) × (nq ≤ length (now flow)) ⌝ }
-    ensures { λ r. ⌜ ((rain units : List ℕ) → Kept o nq rain units (now (flow .entry)) → TakesList QI nq (take n (now (values .entry))) o r rain units (now (flow .entry)) rain units (now (flow .exit))) ⌝ }
+// Whether a record is there.
+pub fn is_given(cards: &[u64], item: usize) -> bool
+    requires { ⌜ (item < items) × Readable (now cards) ⌝ }
+    ensures { λ r. ⌜ ((name : List ℕ) → r ≡ isGiven (cardOf item (blockOf name (now (cards .entry))))) ⌝ }
 {
-    let at = o.flows;
-    if grow(flow, at, values, n, nq) {
-        let mut r = o;
-        r.qi = true;
-        r.flows = at + n;
-        return Stored {
-            refusal: 0,
-            open: r,
-        };
-    }
-    Stored {
-        refusal: 8,
-        open: o,
-    }
+    let at = records::start_of(item);
+    0 < cards[at]
 }
 
-// BA taken: the area.
-fn take_area(o: Open, values: &[u64]) -> Stored
-    requires { ⌜ (o .ba ≡ false) × (1 ≤ length (now values)) ⌝ }
-    ensures { λ r. ⌜ ((nq : ℕ) (rain units flow : List ℕ) → Kept o nq rain units flow → TakesList BA nq (take 1 (now (values .entry))) o r rain units flow rain units flow) ⌝ }
+// Whether the record is one that stands once and is there already.
+pub fn is_repeated(cards: &[u64], item: usize) -> bool
+    requires { ⌜ (item < items) × Readable (now cards) ⌝ }
+    ensures { λ r. ⌜ ((name : List ℕ) → r ≡ repeated item (blockOf name (now (cards .entry)))) ⌝ }
 {
-    let mut r = o;
-    r.ba = true;
-    r.area = values[0];
-    Stored {
-        refusal: 0,
-        open: r,
+    if records::way_of(item) == 0 {
+        return is_given(cards, item);
     }
+    false
 }
 
-// LU taken: the initial and the uniform loss. Its third value is 0.
-fn take_loss(o: Open, values: &[u64]) -> Stored
-    requires { ⌜ (o .lu ≡ false) × (3 ≤ length (now values)) × (getD (now values) 2 0 ≡ 0) ⌝ }
-    ensures { λ r. ⌜ ((nq : ℕ) (rain units flow : List ℕ) → Kept o nq rain units flow → TakesList LU nq (take 3 (now (values .entry))) o r rain units flow rain units flow) ⌝ }
+// A record's values; none where it is not there.
+pub fn values(cards: &[u64], item: usize) -> &[u64]
+    requires { ⌜ (item < items) × Readable (now cards) ⌝ }
+    ensures { λ r. ⌜ ((name : List ℕ) → now r ≡ valuesOf (cardOf item (blockOf name (now (cards .entry))))) ⌝ }
 {
-    let mut r = o;
-    r.lu = true;
-    r.initial = values[0];
-    r.uniform = values[1];
-    Stored {
-        refusal: 0,
-        open: r,
-    }
+    let at = records::start_of(item);
+    let from = at + 1;
+    let to = from + count_by(cards[at]);
+    &cards[from..to]
 }
 
-// HC taken: the number to combine.
-fn take_joins(o: Open, values: &[u64]) -> Stored
-    requires { ⌜ (o .hc ≡ false) × (1 ≤ length (now values)) ⌝ }
-    ensures { λ r. ⌜ ((nq : ℕ) (rain units flow : List ℕ) → Kept o nq rain units flow → TakesList HC nq (take 1 (now (values .entry))) o r rain units flow rain units flow) ⌝ }
+// Value `k` of a record, from 0; 0 where there is none.
+pub fn value_at(cards: &[u64], item: usize, k: usize) -> u64
+    requires { ⌜ (item < items) × Readable (now cards) ⌝ }
+    ensures { λ r. ⌜ ((name : List ℕ) → r ≡ getD (valuesOf (cardOf item (blockOf name (now (cards .entry))))) k 0) ⌝ }
 {
-    let mut r = o;
-    r.hc = true;
-    r.joins = values[0];
-    Stored {
-        refusal: 0,
-        open: r,
-    }
-}
-
-// RM taken: steps, K and X.
-fn take_reach(o: Open, values: &[u64]) -> Stored
-    requires { ⌜ (o .rm ≡ false) × (3 ≤ length (now values)) ⌝ }
-    ensures { λ r. ⌜ ((nq : ℕ) (rain units flow : List ℕ) → Kept o nq rain units flow → TakesList RM nq (take 3 (now (values .entry))) o r rain units flow rain units flow) ⌝ }
-{
-    let mut r = o;
-    r.rm = true;
-    r.steps = values[0];
-    r.travel = values[1];
-    r.weight = values[2];
-    Stored {
-        refusal: 0,
-        open: r,
-    }
-}
-
-// Whether the record is one of single values that is there already.
-pub fn is_repeated(o: Open, t: Table) -> bool
-    ensures { λ r. ⌜ r ≡ repeatedIn o t ⌝ }
-{
-    match t {
-        Table::Time => false,
-        Table::Area => o.ba,
-        Table::Rain => false,
-        Table::Loss => o.lu,
-        Table::Units => false,
-        Table::Flow => false,
-        Table::Joins => o.hc,
-        Table::Reach => o.rm,
-    }
-}
-
-// A line's values taken into the open block, or refused by 8. A record of single values is not there yet; the time control is no record of a block.
-pub fn take_values(
-    o: Open,
-    t: Table,
-    values: &[u64],
-    count: usize,
-    nq: usize,
-    rain: &mut [u64],
-    units: &mut [u64],
-    flow: &mut [u64],
-) -> Stored
-    requires { ⌜ (count ≤ 10) × (10 ≤ length (now values)) ⌝ }
-    requires { ⌜ (repeatedIn o t ≡ false) × ThirdZero t (now values) ⌝ }
-    requires { ⌜ Kept o nq (now rain) (now units) (now flow) ⌝ }
-    ensures { λ r. ⌜ Taken t nq (take (spanBy t count) (now (values .entry))) o r (now (rain .entry)) (now (units .entry)) (now (flow .entry)) (now (rain .exit)) (now (units .exit)) (now (flow .exit)) ⌝ }
-{
-    match t {
-        Table::Time => Stored {
-            refusal: 0,
-            open: o,
-        },
-        Table::Area => take_area(o, values),
-        Table::Rain => take_rain(o, values, count, nq, rain),
-        Table::Loss => take_loss(o, values),
-        Table::Units => take_units(o, values, count, nq, units),
-        Table::Flow => take_flow(o, values, count, nq, flow),
-        Table::Joins => take_joins(o, values),
-        Table::Reach => take_reach(o, values),
-    }
-}
-
-fn bit(given: bool, value: u64) -> u64
-    ensures { λ r. ⌜ (r ≡ bitOf given value) × (r ≤ value) ⌝ }
-{
-    if given {
-        return value;
+    let vs = values(cards, item);
+    if k < vs.len() {
+        return vs[k];
     }
     0
 }
 
-// The kind of the block, from the records that are there.
-pub fn kind_of(o: Open) -> Kind
-    ensures { λ r. ⌜ ((rain units flow : List ℕ) → kindMeant r ≡ kindOf (blockOf o rain units flow)) ⌝ }
+// No record is there: a block just opened. The values need not be touched.
+pub fn clear(cards: &mut [u64])
+    requires { ⌜ wordsOf table ≤ length (now cards) ⌝ }
+    ensures { λ _. ⌜ ((name : List ℕ) → blockOf name (now (cards .exit)) ≡ opened name) × ((nq : ℕ) → nq ≤ 300 → Counted nq (now (cards .exit))) ⌝ }
 {
-    let basin = bit(o.ba, 1) + bit(o.pi, 2) + bit(o.lu, 4) + bit(o.ui, 8);
-    let others = bit(o.qi, 16) + bit(o.hc, 32) + bit(o.rm, 64);
-    match basin + others {
+    let mut item: usize = 0;
+    while item < records::RECORDS {
+        let at = records::start_of(item);
+        cards[at] = 0;
+        item += 1;
+    }
+}
+
+// 1 where the record is there, else 0.
+fn bit_at(cards: &[u64], item: usize) -> u64
+    requires { ⌜ (item < items) × Readable (now cards) ⌝ }
+    ensures { λ r. ⌜ ((name : List ℕ) → r ≡ bitOf (isGiven (cardOf item (blockOf name (now (cards .entry)))))) × (r ≤ 1) ⌝ }
+{
+    if is_given(cards, item) {
+        return 1;
+    }
+    0
+}
+
+// The records that are there as one number: 2 to the power of its place for each.
+fn mask_of(cards: &[u64]) -> u64
+    requires { ⌜ Readable (now cards) ⌝ }
+    ensures { λ r. ⌜ ((name : List ℕ) → r ≡ maskOf (blockOf name (now (cards .entry)) .cards)) ⌝ }
+{
+    let mut mask: u64 = 0;
+    let mut left = records::RECORDS;
+    while 0 < left {
+        left -= 1;
+        mask = 2 * mask + bit_at(cards, left);
+    }
+    mask
+}
+
+// The kind of the block, from the records that are there: BA 1, PI 2, LU 4, UI 8, QI 16, HC 32, RM 64.
+pub fn kind_of(cards: &[u64]) -> Kind
+    requires { ⌜ Readable (now cards) ⌝ }
+    ensures { λ r. ⌜ ((name : List ℕ) → kindMeant r ≡ kindOf (blockOf name (now (cards .entry)))) ⌝ }
+{
+    match mask_of(cards) {
         15 => Kind::Basin,
         16 => Kind::Inflow,
         17 => Kind::Inflow,

@@ -18,7 +18,7 @@ use Rattle.meaning.specs.Fields.{Form, fieldsOf, nameIn}
 use Rattle.meaning.specs.Records.{Item, RM, Row, Once, Listed, table, rowOf, rulesIn, listsIn, Record, ID, IT, KK, KM, ZZ, Control, Of, Rule, ruleAt, timeRules, rulesOf, filledUp, valueFields, anyFaulty, anyOutside, valuesFrom, badName}
 use Rattle.meaning.specs.Blocks.{Time, Card, Absent, Given, isGiven, valuesOf, Block, cardOf, opened, repeated, tooMany, value1, value2, value3}
 use Rattle.meaning.specs.Run.{Head, Faulty, Skipped, Holds, headOf, Reading, BeforeTime, BeforeBlocks, InBlock, Event, Refuse, Go, Open, End, unless, timeRefusal, timeOf, nameRefusal, itemValues, itemRefusal, withItem, readRecord, readBy, readLine}
-use Rattle.limits.specs.Trimming.{faulty-split}
+use Rattle.records.specs.Blanks.{faulty-split}
 use Rattle.limits.specs.Limits.{highest, lowest, values-at-most, values-at-least}
 use Rattle.limits.specs.ReadOn.{Found, Missing, Met, metBy, readOn}
 

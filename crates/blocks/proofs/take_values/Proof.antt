@@ -1,129 +1,132 @@
--- Each arm is the promise of the function that it calls, at its table.
-use mathlib.Core.Path.{refl}
+-- The region of the record is lent; what is in it then is one law for every record.
+use Prim.Native.Nat.{ℕ, suc, _+_, _-_, _≤_}
+use mathlib.Core.Path.{_≡_, sym, _∙_}
+use mathlib.Core.List.{List}
 use native.Mathlib.Omega.{arith}
+use lib.ListN.{length}
+use Rattle.sequences.specs.Parts.{part}
+use Rattle.meaning.specs.Records.{rowOf}
+use Rattle.records.specs.Rows.{start, roomOf, mostIn, spanIn, next-start, span-by, most-by, most-fits, own-few}
+use Rattle.blocks.specs.Cards.{regionOf}
+use Rattle.blocks.specs.Taking.{region-part, region-fits, region-long, takes}
 use borrow.Author.Needs.{needs}
 use Rattle.blocks.proofs.take_values.Statement.{statement}
 use Rattle.blocks.proofs.take_values.Tie as tie
 
-enum-told : tie.Need-enum-told
-enum-told c = search needs
+-- where the region stands, and that it is within the words
+record Place (item from to : ℕ) (w : List ℕ) : Type 0 where
+  begins : from ≡ start item
+  ends : to ≡ from + suc (roomOf item)
+  room : to - from - 1 ≡ roomOf item
+  fits : to ≤ length w
 
-enum-told-2 : tie.Need-enum-told-2
-enum-told-2 c = search needs
+place : (c : tie.After-start-of2) → Place (c .before .before .before .before .args .item) (c .before .start-of .result) (c .start-of2 .result) (c .before .before .before .before .args .cards .now)
+place c =
+    let s = c .before .before .before .before in
+    let h = next-start (s .args .item) (search needs) in
+    let f = region-fits (s .args .item) (s .args .cards .now) (search needs) (s .pre .1 .1 .long) in
+    let e : c .start-of2 .result ≡ c .before .start-of .result + suc (roomOf (s .args .item)) = omega (arith, c .before .start-of .ensures, c .start-of2 .ensures) in
+    record { begins = c .before .start-of .ensures; ends = e; room = omega arith; fits = omega (arith, c .before .start-of .ensures) }
 
-take-area-requires : tie.Need-take-area-requires
-take-area-requires c κs = (rw (c .enum-told2 .given .1) at (c .before .before .before .before .before .before .pre .1 .0 .0), omega arith)
+-- how many values are the record's, and how many it may have
+record Counts (item count nq n most : ℕ) : Type 0 where
+  own : n ≡ spanIn (rowOf item) count
+  bound : most ≡ mostIn (rowOf item) nq
 
-enum-told-3 : tie.Need-enum-told-3
-enum-told-3 c = search needs
-
-take-rain-requires : tie.Need-take-rain-requires
-take-rain-requires c κs = search needs
-
-enum-told-4 : tie.Need-enum-told-4
-enum-told-4 c = search needs
-
-take-loss-requires : tie.Need-take-loss-requires
-take-loss-requires c κs = (rw (c .enum-told4 .given .1) at (c .before .before .before .before .before .before .pre .1 .0 .0), omega arith, rw (c .enum-told4 .given .1) at (c .before .before .before .before .before .before .pre .1 .0 .1))
-
-enum-told-5 : tie.Need-enum-told-5
-enum-told-5 c = search needs
-
-take-units-requires : tie.Need-take-units-requires
-take-units-requires c κs = search needs
-
-enum-told-6 : tie.Need-enum-told-6
-enum-told-6 c = search needs
-
-take-flow-requires : tie.Need-take-flow-requires
-take-flow-requires c κs = search needs
-
-enum-told-7 : tie.Need-enum-told-7
-enum-told-7 c = search needs
-
-take-joins-requires : tie.Need-take-joins-requires
-take-joins-requires c κs = (rw (c .enum-told7 .given .1) at (c .before .before .before .before .before .before .pre .1 .0 .0), omega arith)
-
-enum-told-8 : tie.Need-enum-told-8
-enum-told-8 c = search needs
-
-take-reach-requires : tie.Need-take-reach-requires
-take-reach-requires c κs = (rw (c .enum-told8 .given .1) at (c .before .before .before .before .before .before .pre .1 .0 .0), omega arith)
-
-returns : tie.Need-returns
-returns c = rw (c .enum-told .given .1) (refl, refl, refl, refl, refl)
-
-returns-2 : tie.Need-returns-2
-returns-2 c =
+counts : (c : tie.After-most-by) → Counts (c .before .before .before .before .before .before .before .args .item) (c .before .before .before .before .before .before .before .args .count) (c .before .before .before .before .before .before .before .args .nq) (c .before .span-by .result) (c .most-by .result)
+counts c =
     let x = c .before .before .before .before .before .before .before .args in
-    rw (c .before .enum-told2 .given .1) (c .take-area .ensures (x .nq) (x .rain .now) (x .units .now) (x .flow .now) (c .before .before .before .before .before .before .before .pre .1 .1))
+    let p = place (c .before .before .before) in
+    record {
+      own = c .before .span-by .ensures ∙ rw (p .room, c .before .before .way-of .ensures) (span-by (rowOf (x .item)) (x .count));
+      bound = c .most-by .ensures ∙ rw (p .room, c .before .before .way-of .ensures) (most-by (rowOf (x .item)) (x .nq));
+    }
+
+start-of-requires : tie.Need-start-of-requires
+start-of-requires c κs = search needs
+
+add-start-of : tie.Need-add-start-of
+add-start-of c = search needs
+
+start-of-requires-2 : tie.Need-start-of-requires-2
+start-of-requires-2 c κs = search needs
+
+sub-room : tie.Need-sub-room
+sub-room c = let p = place c in omega (arith, p .ends)
+
+sub-room-2 : tie.Need-sub-room-2
+sub-room-2 c = let p = place c in omega (arith, p .ends)
+
+way-of-requires : tie.Need-way-of-requires
+way-of-requires c κs = search needs
+
+span-by-requires : tie.Need-span-by-requires
+span-by-requires c κs = search needs
+
+most-by-requires : tie.Need-most-by-requires
+most-by-requires c κs = search needs
+
+mul-take-in : tie.Need-mul-take-in
+mul-take-in c = let p = place (c .before .before .before) in omega (arith, p .ends, p .fits)
+
+sub-take-in : tie.Need-sub-take-in
+sub-take-in c = let p = place (c .before .before .before) in omega (arith, p .ends, p .fits)
+
+part-take-in-start : tie.Need-part-take-in-start
+part-take-in-start c = let p = place (c .before .before .before) in omega (arith, p .ends, p .fits)
+
+part-take-in-end : tie.Need-part-take-in-end
+part-take-in-end c = let p = place (c .before .before .before) in omega (arith, p .ends, p .fits)
+
+take-in-requires : tie.Need-take-in-requires
+take-in-requires c κs =
+    let s = c .before .before .before .before .before .before .before .before in
+    let x = s .args in
+    let p = place (c .before .before .before .before) in
+    let k = counts (c .before) in
+    let e : c .before .before .before .before .start-of2 .result - c .before .before .before .before .before .start-of .result ≡ suc (roomOf (x .item)) = omega (arith, p .ends) in
+    let q : part (c .before .before .before .before .before .start-of .result) (c .before .before .before .before .start-of2 .result - c .before .before .before .before .before .start-of .result) (x .cards .now) ≡ regionOf (x .item) (x .cards .now) =
+    rw (e, p .begins) (sym (region-part (x .item) (x .cards .now) (search needs) (s .pre .1 .1 .long))) in
+    let n = own-few (x .item) (x .count) (search needs) (search needs) in
+    let fit = most-fits (rowOf (x .item)) (x .nq) (s .pre .1 .1 .few) in (
+      (omega (arith, n, k .own), omega (arith, n, k .own)),
+      (rw (q, k .bound) (s .pre .1 .1 .heads (x .item)), rw (q, k .bound, region-long (x .item) (x .cards .now) (search needs) (s .pre .1 .1 .long)) (omega arith)),
+    )
 
 same-length : tie.Need-same-length
 same-length c = search needs
 
-returns-3 : tie.Need-returns-3
-returns-3 c =
-    let x = c .before .before .before .before .before .before .before .before .before .before .args in
-    rw (c .before .before .before .before .enum-told3 .given .1) (c .before .before .take-rain .ensures (x .units .now) (x .flow .now) (c .before .before .before .before .before .before .before .before .before .before .pre .1 .1))
-
-returns-4 : tie.Need-returns-4
-returns-4 c =
-    let x = c .before .before .before .before .before .before .before .args in
-    rw (c .before .enum-told4 .given .1) (c .take-loss .ensures (x .nq) (x .rain .now) (x .units .now) (x .flow .now) (c .before .before .before .before .before .before .before .pre .1 .1))
-
-same-length-2 : tie.Need-same-length-2
-same-length-2 c = search needs
-
-returns-5 : tie.Need-returns-5
-returns-5 c =
-    let x = c .before .before .before .before .before .before .before .before .before .before .args in
-    rw (c .before .before .before .before .enum-told5 .given .1) (c .before .before .take-units .ensures (x .rain .now) (x .flow .now) (c .before .before .before .before .before .before .before .before .before .before .pre .1 .1))
-
-same-length-3 : tie.Need-same-length-3
-same-length-3 c = search needs
-
-returns-6 : tie.Need-returns-6
-returns-6 c =
-    let x = c .before .before .before .before .before .before .before .before .before .before .args in
-    rw (c .before .before .before .before .enum-told6 .given .1) (c .before .before .take-flow .ensures (x .rain .now) (x .units .now) (c .before .before .before .before .before .before .before .before .before .before .pre .1 .1))
-
-returns-7 : tie.Need-returns-7
-returns-7 c =
-    let x = c .before .before .before .before .before .before .before .args in
-    rw (c .before .enum-told7 .given .1) (c .take-joins .ensures (x .nq) (x .rain .now) (x .units .now) (x .flow .now) (c .before .before .before .before .before .before .before .pre .1 .1))
-
-returns-8 : tie.Need-returns-8
-returns-8 c =
-    let x = c .before .before .before .before .before .before .before .args in
-    rw (c .before .enum-told8 .given .1) (c .take-reach .ensures (x .nq) (x .rain .now) (x .units .now) (x .flow .now) (c .before .before .before .before .before .before .before .pre .1 .1))
+returns : tie.Need-returns
+returns c =
+    let s = c .before .before .before .before .before .before .before .before .before .before .before in
+    let x = s .args in
+    let p = place (c .before .before .before .before .before .before .before) in
+    let k = counts (c .before .before .before .before) in
+    let e : c .before .before .before .before .before .before .before .start-of2 .result - c .before .before .before .before .before .before .before .before .start-of .result ≡ suc (roomOf (x .item)) = omega (arith, p .ends) in
+    let q : part (c .before .before .before .before .before .before .before .before .start-of .result) (c .before .before .before .before .before .before .before .start-of2 .result - c .before .before .before .before .before .before .before .before .start-of .result) (x .cards .now) ≡ regionOf (x .item) (x .cards .now) =
+    rw (e, p .begins) (sym (region-part (x .item) (x .cards .now) (search needs) (s .pre .1 .1 .long))) in
+    let n = own-few (x .item) (x .count) (search needs) (search needs) in
+    let t = c .before .before .take-in in
+    rw (e, p .begins)
+    (takes (x .item) (x .nq) (x .count) (x .values .now) (x .cards .now) (search needs) (s .pre .1 .1) (omega (arith, n)) (s .pre .1 .0) (t .result) (t .last .0)
+    (rw (q, k .own, k .bound) at (t .ensures .0)) (rw (q, k .own, k .bound) at (t .ensures .1)))
 
 pub take-values-spec : {M : Type 1} → statement M
 take-values-spec =
     tie.close
     (tie.spec
-    enum-told
-    enum-told-2
-    take-area-requires
-    enum-told-3
-    take-rain-requires
-    enum-told-4
-    take-loss-requires
-    enum-told-5
-    take-units-requires
-    enum-told-6
-    take-flow-requires
-    enum-told-7
-    take-joins-requires
-    enum-told-8
-    take-reach-requires
-    returns
-    returns-2
+    start-of-requires
+    add-start-of
+    start-of-requires-2
+    sub-room
+    sub-room-2
+    way-of-requires
+    span-by-requires
+    most-by-requires
+    mul-take-in
+    sub-take-in
+    part-take-in-start
+    part-take-in-end
+    take-in-requires
     same-length
-    returns-3
-    returns-4
-    same-length-2
-    returns-5
-    same-length-3
-    returns-6
-    returns-7
-    returns-8)
+    returns)

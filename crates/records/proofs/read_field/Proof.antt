@@ -1,0 +1,60 @@
+-- An unnamed field is a fault unless it is blank; a number is read in the units of its field and held against its limits.
+use Prim.Native.Nat.{ℕ, _<_, _≤_}
+use mathlib.Core.Path.{_≡_, refl}
+use mathlib.Core.Bool.{true, false, not}
+use mathlib.Core.List.{List, [], _∷_}
+use native.Mathlib.Omega.{arith}
+use lib.ListN.{length}
+use Rattle.meaning.specs.Words.{empty}
+use borrow.Author.Needs.{needs}
+use Rattle.records.proofs.read_field.Statement.{statement}
+use Rattle.records.proofs.read_field.Tie as tie
+
+filled : (f : List ℕ) → 0 < length f → not (empty f) ≡ true
+filled [] h = absurd (omega arith)
+filled (b ∷ f) h = refl
+
+unfilled : (f : List ℕ) → length f ≤ 0 → not (empty f) ≡ false
+unfilled [] h = refl
+unfilled (b ∷ f) h = absurd (omega arith)
+
+enum-told : tie.Need-enum-told
+enum-told c = search needs
+
+returns : tie.Need-returns
+returns c = rw (c .before .enum-told .given .1) (filled (c .before .before .before .before .args .f .now) (c .if1 .taken))
+
+enum-told-2 : tie.Need-enum-told-2
+enum-told-2 c = search needs
+
+enum-known-r : tie.Need-enum-known-r
+enum-known-r c = search needs
+
+read-value-requires : tie.Need-read-value-requires
+read-value-requires c κs = rw (c .before .r .given .1) at (c .before .before .before .before .pre)
+
+limit-value-requires : tie.Need-limit-value-requires
+limit-value-requires c κs = search needs
+
+returns-2 : tie.Need-returns-2
+returns-2 c = rw (c .before .enum-told .given .1) (unfilled (c .before .before .before .before .args .f .now) (c .if1 .left), refl, refl)
+
+returns-3 : tie.Need-returns-3
+returns-3 c = search needs
+
+returns-4 : tie.Need-returns-4
+returns-4 c = rw (c .before .before .before .r .given .1, ← c .before .read-value .ensures) (c .limit-value .ensures)
+
+pub read-field-spec : {M : Type 1} → statement M
+read-field-spec =
+    tie.close
+    (tie.spec
+    enum-told
+    returns
+    enum-told-2
+    enum-known-r
+    read-value-requires
+    limit-value-requires
+    returns-2
+    returns-3
+    returns-4)

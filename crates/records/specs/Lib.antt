@@ -1,0 +1,7 @@
+-- The table of records, as the code has it, and what its rules make of blank fields.
+pub mod Tables
+pub mod Rows
+pub mod Rules
+pub mod Keys
+pub mod Blanks
+pub mod Unique

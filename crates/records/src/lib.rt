@@ -1,0 +1,212 @@
+// The table of records, as the code has it: a place for each record, the region of the open block's words that its values have, how it stands, its identifier,
+// and the rules of its fields. A further record is one entry more in each table here, and its rules.
+ghost use mathlib.Core.Path.{_≡_};
+ghost use Prim.Native.Nat.{_≤_, _<_};
+ghost use Rattle.meaning.specs.Records.{rowOf, ruleAt, isMalformed, isOutside, unitsOf, faultyField, outsideField, valueOf};
+ghost use Rattle.numbers.specs.Reading.{valueIs};
+ghost use Rattle.records.specs.Rows.{items, fieldRow, rulesBy, start, wayIn, spanIn, spanBy, mostBy};
+ghost use Rattle.records.specs.Rules.{ruleBy, ownRule, FieldIs, FewPlaces};
+ghost use Rattle.records.specs.Keys.{keyIn, placeOf};
+use numbers::Value;
+
+// The records that a block holds, each by its place in the table of records.
+pub const BA: usize = 0;
+
+pub const PI: usize = 1;
+
+pub const LU: usize = 2;
+
+pub const UI: usize = 3;
+
+pub const QI: usize = 4;
+
+pub const HC: usize = 5;
+
+pub const RM: usize = 6;
+
+pub const RECORDS: usize = 7;
+
+// The time control has fields too, and is no record of a block: its place is behind them.
+pub const IT: usize = 7;
+
+// Where the regions begin, and behind the last the end: a head word, then room for the values.
+const STARTS: [u16; 8] = [0, 2, 303, 307, 458, 759, 761, 765];
+
+// How a record stands: 0 once, 1 a list of as many values as there is room for, 2 a list of at most NQ.
+const WAYS: [u8; 7] = [0, 2, 0, 1, 2, 0, 0];
+
+// The identifiers' two bytes as numbers.
+const KEYS: [u16; 7] = [0x4241, 0x5049, 0x4C55, 0x5549, 0x5149, 0x4843, 0x524D];
+
+// How many fields have a value whether they are written or not: none where values are listed.
+const NAMED: [u16; 8] = [1, 0, 3, 0, 0, 1, 3, 4];
+
+fn wide(x: u16) -> u64
+    ensures { λ r. ⌜ r ≡ x ⌝ }
+{
+    x as u64
+}
+
+pub fn start_of(item: usize) -> usize
+    requires { ⌜ item ≤ items ⌝ }
+    ensures { λ r. ⌜ r ≡ start item ⌝ }
+{
+    wide(STARTS[item]) as usize
+}
+
+pub fn way_of(item: usize) -> u8
+    requires { ⌜ item < items ⌝ }
+    ensures { λ r. ⌜ r ≡ wayIn (rowOf item) ⌝ }
+{
+    WAYS[item]
+}
+
+// How many of a line's values are the record's: those of its fields, for which there is room, or as many as are listed.
+pub fn span_by(way: u8, room: usize, count: usize) -> usize
+    ensures { λ r. ⌜ r ≡ spanBy way room count ⌝ }
+{
+    if way == 0 {
+        return room;
+    }
+    count
+}
+
+// The most values that a record has in a block.
+pub fn most_by(way: u8, room: usize, nq: usize) -> usize
+    ensures { λ r. ⌜ r ≡ mostBy way room nq ⌝ }
+{
+    if way == 2 {
+        return nq;
+    }
+    room
+}
+
+pub fn named_fields(item: usize) -> usize
+    requires { ⌜ item ≤ items ⌝ }
+    ensures { λ r. ⌜ r ≡ spanIn (fieldRow item) 0 ⌝ }
+{
+    wide(NAMED[item]) as usize
+}
+
+fn key_at(item: usize) -> u64
+    requires { ⌜ item < items ⌝ }
+    ensures { λ r. ⌜ r ≡ keyIn (rowOf item) ⌝ }
+{
+    wide(KEYS[item])
+}
+
+// The place of the record with that identifier, or RECORDS where there is none.
+pub fn place_of(key: u64) -> usize
+    ensures { λ r. ⌜ (r ≡ placeOf key) × (r ≤ items) ⌝ }
+{
+    let mut i: usize = 0;
+    while i < RECORDS {
+        if key == key_at(i) {
+            return i;
+        }
+        i += 1;
+    }
+    i
+}
+
+// What a field may hold: nothing; anything, since it is not read; a number with so many places, from a lowest to a highest value.
+pub enum Rule {
+    Unnamed,
+    NotRead,
+    Limited(u64, u64, u64),
+}
+
+// The rule of field `k` of a record, from 0, or of the values that it lists. A match and no table, since it is asked for every field.
+fn own_rule(item: usize, k: usize) -> Rule
+    ensures { λ r. ⌜ ruleBy r ≡ ownRule (fieldRow item) k ⌝ }
+{
+    match item {
+        0 => match k {
+            0 => Rule::Limited(2, 1, 999999),
+            _ => Rule::Unnamed,
+        },
+        1 => Rule::Limited(4, 0, 200000),
+        2 => match k {
+            0 => Rule::Limited(4, 0, 200000),
+            1 => Rule::Limited(4, 0, 200000),
+            2 => Rule::Limited(2, 0, 0),
+            _ => Rule::Unnamed,
+        },
+        3 => Rule::Limited(2, 0, 9999999),
+        4 => Rule::Limited(2, 0, 10000000),
+        5 => match k {
+            0 => Rule::Limited(0, 2, 5),
+            _ => Rule::Unnamed,
+        },
+        6 => match k {
+            0 => Rule::Limited(0, 1, 50),
+            1 => Rule::Limited(2, 1, 2400),
+            2 => Rule::Limited(2, 0, 50),
+            _ => Rule::Unnamed,
+        },
+        7 => match k {
+            0 => Rule::Limited(0, 1, 1440),
+            1 => Rule::NotRead,
+            2 => Rule::NotRead,
+            3 => Rule::Limited(0, 1, 300),
+            _ => Rule::Unnamed,
+        },
+        _ => Rule::Unnamed,
+    }
+}
+
+// The same for any field: a line has ten at most.
+fn rule_at(item: usize, k: usize) -> Rule
+    ensures { λ r. ⌜ ruleBy r ≡ ruleAt (rulesBy item) k ⌝ }
+{
+    if 10 <= k {
+        return Rule::Unnamed;
+    }
+    own_rule(item, k)
+}
+
+// What a field holds by its rule: a fault (refusal 6), or a value and whether it is outside its limits (refusal 7).
+pub enum Field {
+    Faulty,
+    Value(u64, bool),
+}
+
+// A value, by the limits of its field.
+fn limit_value(v: Value, low: u64, high: u64) -> Field
+    ensures { λ r. ⌜ FieldIs r (isMalformed (valueIs v)) (isOutside low high (valueIs v)) (unitsOf (valueIs v)) ⌝ }
+{
+    match v {
+        Value::Malformed => Field::Faulty,
+        Value::Negative => Field::Value(0, true),
+        Value::Units(u) => {
+            if u < low {
+                return Field::Value(u, true);
+            }
+            Field::Value(u, high < u)
+        }
+    }
+}
+
+// A field, by its rule.
+fn read_field(r: Rule, f: &[u8]) -> Field
+    requires { ⌜ FewPlaces (ruleBy r) ⌝ }
+    ensures { λ x. ⌜ FieldIs x (faultyField (ruleBy r) (now (f .entry))) (outsideField (ruleBy r) (now (f .entry))) (valueOf (ruleBy r) (now (f .entry))) ⌝ }
+{
+    match r {
+        Rule::Unnamed => {
+            if 0 < f.len() {
+                return Field::Faulty;
+            }
+            Field::Value(0, false)
+        }
+        Rule::NotRead => Field::Value(0, false),
+        Rule::Limited(places, low, high) => limit_value(numbers::read_value(f, places), low, high),
+    }
+}
+
+// Field `k` of a record, counted from 0.
+pub fn field_at(item: usize, k: usize, f: &[u8]) -> Field
+    ensures { λ x. ⌜ FieldIs x (faultyField (ruleAt (rulesBy item) k) (now (f .entry))) (outsideField (ruleAt (rulesBy item) k) (now (f .entry))) (valueOf (ruleAt (rulesBy item) k) (now (f .entry))) ⌝ }
+{
+    read_field(rule_at(item, k), f)
+}

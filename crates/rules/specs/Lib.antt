@@ -1,3 +1,0 @@
--- What the code's tables and rules mean.
-pub mod Tables
-pub mod Unique

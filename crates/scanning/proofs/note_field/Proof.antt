@@ -1,0 +1,56 @@
+-- A fault leaves all as it was; else what is kept is what the definition notes.
+use mathlib.Core.Path.{sym}
+use mathlib.Core.Bool.{true≢false}
+use Rattle.records.specs.Rows.{rulesBy}
+use Rattle.scanning.specs.Scans.{noted-by}
+use borrow.Author.Needs.{needs}
+use Rattle.scanning.proofs.note_field.Statement.{statement}
+use Rattle.scanning.proofs.note_field.Tie as tie
+
+field-at-requires : tie.Need-field-at-requires
+field-at-requires c κs = search needs
+
+enum-told : tie.Need-enum-told
+enum-told c = search needs
+
+enum-known-v : tie.Need-enum-known-v
+enum-known-v c = search needs
+
+keep-requires : tie.Need-keep-requires
+keep-requires c κs = search needs
+
+note-requires : tie.Need-note-requires
+note-requires c κs = search needs
+
+returns : tie.Need-returns
+returns c = (sym (rw (c .enum-told .given .1) at (c .before .before .field-at .ensures)), λ z. absurd (true≢false z))
+
+same-length : tie.Need-same-length
+same-length c = search needs
+
+returns-2 : tie.Need-returns-2
+returns-2 c =
+    let x = c .before .before .before .before .before .before .before .before .before .before .before .args in
+    let e = rw (c .before .before .before .before .before .before .v .given .1) at (c .before .before .before .before .before .before .before .before .field-at .ensures) in (
+      sym (e .0),
+      λ z.
+          noted-by (rulesBy (x .item)) (x .k) (x .f .now) (x .values .now) (x .scan) (c .before .before .before .keep .last .0) (c .note .result) _ _
+          (c .before .before .before .keep .ensures)
+          (c .note .ensures .0)
+          (c .note .ensures .1)
+          (e .1)
+          (e .2),
+    )
+
+pub note-field-spec : {M : Type 1} → statement M
+note-field-spec =
+    tie.close
+    (tie.spec
+    field-at-requires
+    enum-told
+    enum-known-v
+    keep-requires
+    note-requires
+    returns
+    same-length
+    returns-2)
