@@ -29,10 +29,7 @@ fn loss_of(time: Time, cards: &[u64]) -> Loss
     ensures { λ r. ⌜ ((name : List ℕ) → r ≡ blockLoss (timeIs time) (blockOf name (now (cards .entry)))) ⌝ }
 {
     let initial = units::depth_of(blocks::value_at(cards, records::LU, 0));
-    let uniform = units::uniform_loss(
-        time.minutes,
-        blocks::value_at(cards, records::LU, 1),
-    );
+    let uniform = units::uniform_loss(time.minutes, blocks::value_at(cards, records::LU, 1));
     Loss { initial, uniform }
 }
 
