@@ -3,7 +3,7 @@ use Prim.Native.Nat.{ℕ}
 use mathlib.Core.Path.{_≡_}
 use mathlib.Core.List.{List}
 use Rattle.meaning.specs.Numbers.{numberOf, inUnits}
-use Rattle.sequences.specs.Choices.{one-answer}
+use Rattle.sequences.specs.Choices.{one-outcome}
 use Rattle.numbers.specs.declared.Number.{Number}
 use Rattle.numbers.specs.declared.Number.the-variants.{NoNumber, Decimal}
 use Rattle.numbers.specs.declared.Value.{Value}
@@ -28,7 +28,7 @@ value-told (Units v) Negative h = cc
 value-told (Units v) (Units w) h = cc
 
 pub one-number : (f : List ℕ) (r r′ : Number) → numberIs r ≡ numberOf f → numberIs r′ ≡ numberOf f → r ≡ r′
-one-number f r r′ p q = number-told r r′ (one-answer p q)
+one-number f r r′ p q = number-told r r′ (one-outcome p q)
 
 pub one-value : (f : List ℕ) (allowed : ℕ) (r r′ : Value) → valueIs r ≡ inUnits allowed (numberOf f) → valueIs r′ ≡ inUnits allowed (numberOf f) → r ≡ r′
-one-value f allowed r r′ p q = value-told r r′ (one-answer p q)
+one-value f allowed r r′ p q = value-told r r′ (one-outcome p q)
