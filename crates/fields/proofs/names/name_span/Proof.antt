@@ -1,12 +1,12 @@
 -- The name is field 1, where the line reaches it.
 use borrow.Author.Needs.{needs}
 use mathlib.Core.Path.{_∙_, ap}
 use Rattle.fields.specs.Spans.{formOf}
 use Rattle.fields.specs.Turns.{first-stands}
-use Rattle.names.specs.Names.{nameFrom}
-use Rattle.names.specs.Laws.{name-none, name-some}
-use Rattle.names.proofs.name_span.Statement.{statement}
-use Rattle.names.proofs.name_span.Tie as tie
+use Rattle.fields.specs.Names.{nameFrom}
+use Rattle.fields.specs.NameLaws.{name-none, name-some}
+use Rattle.fields.proofs.names.name_span.Statement.{statement}
+use Rattle.fields.proofs.names.name_span.Tie as tie
 
 first-place-requires : tie.Need-first-place-requires
 first-place-requires c κs = search needs

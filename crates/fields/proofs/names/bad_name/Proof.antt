@@ -1,9 +1,9 @@
 -- Each way out is one way through the definition.
 use borrow.Author.Needs.{needs}
 use mathlib.Core.Path.{_∙_}
-use Rattle.names.specs.Laws.{empty-bad, long-bad, blank-bad}
-use Rattle.names.proofs.bad_name.Statement.{statement}
-use Rattle.names.proofs.bad_name.Tie as tie
+use Rattle.fields.specs.NameLaws.{empty-bad, long-bad, blank-bad}
+use Rattle.fields.proofs.names.bad_name.Statement.{statement}
+use Rattle.fields.proofs.names.bad_name.Tie as tie
 
 returns : tie.Need-returns
 returns c = empty-bad _ (c .if1 .taken)

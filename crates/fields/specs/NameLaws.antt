@@ -17,11 +17,11 @@ use Rattle.meaning.specs.Records.{anyBlank, badName}
 use Rattle.sequences.specs.Choices.{below-or-not, taken, passed}
 use Rattle.sequences.specs.Parts.{part}
 use Rattle.sequences.specs.Runs.{run}
 use Rattle.fields.specs.declared.Span.{Span}
 use Rattle.fields.specs.Spans.{inValue, blanksEnd, valueEnd, spanOf, cut, firstPlace, startOf, spanAt}
 use Rattle.fields.specs.Turns.{Turn, turn, first-stands}
 use Rattle.fields.specs.Fixed.{skip-drop, field-cut, value-part}
-use Rattle.names.specs.Names.{nameFrom, nameSpan}
+use Rattle.fields.specs.Names.{nameFrom, nameSpan}
 
 pub name-none : (form : Form) (l : List ℕ) (c : ℕ) → length l ≤ c → spanOf 0 0 c ≡ nameFrom form l c
 unfolding nameFrom

@@ -1,18 +1,18 @@
 // The name on a KK line: the line's first field, and whether it is one.
-use fields::Span;
+use super::Span;
 ghost use mathlib.Core.Path.{_≡_};
 ghost use Prim.Native.Nat.{_≤_};
 ghost use lib.ListN.{length};
 ghost use Rattle.meaning.specs.Records.{anyBlank, badName};
 ghost use Rattle.fields.specs.Spans.{formOf};
-ghost use Rattle.names.specs.Names.{nameSpan};
+ghost use Rattle.fields.specs.Names.{nameSpan};
 
 // Where the name stands; a line that ends before its first field has none.
 pub fn name_span(free: bool, l: &[u8]) -> Span
     requires { ⌜ length (now l) ≤ 80 ⌝ }
     ensures { λ r. ⌜ r ≡ nameSpan (formOf free) (now (l .entry)) ⌝ }
 {
-    let c = fields::first_place(free, l);
+    let c = super::first_place(free, l);
     if l.len() <= c {
         return Span {
             from: 0,
@@ -20,7 +20,7 @@ pub fn name_span(free: bool, l: &[u8]) -> Span
             next: c,
         };
     }
-    fields::span_at(free, l, 0, c)
+    super::span_at(free, l, 0, c)
 }
 
 fn has_blank(name: &[u8]) -> bool

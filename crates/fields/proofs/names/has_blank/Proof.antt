@@ -4,9 +4,9 @@ use Prim.Native.Nat.{_-_}
 use mathlib.Core.Path.{_≡_, refl, sym, _∙_}
 use lib.ListN.{length, drop}
 use Rattle.meaning.specs.Records.{anyBlank}
-use Rattle.names.specs.Laws.{blank-here, blank-later, blank-nowhere}
-use Rattle.names.proofs.has_blank.Statement.{statement}
-use Rattle.names.proofs.has_blank.Tie as tie
+use Rattle.fields.specs.NameLaws.{blank-here, blank-later, blank-nowhere}
+use Rattle.fields.proofs.names.has_blank.Statement.{statement}
+use Rattle.fields.proofs.names.has_blank.Tie as tie
 
 abbrev Inv-loop : tie.InvT-loop
 Inv-loop name i₀ i = anyBlank (drop i name) ≡ anyBlank name
