@@ -4,4 +4,3 @@ pub mod Digits
 pub mod Units
 pub mod Decimals
 pub mod Fields
-pub mod Unique
