@@ -6,12 +6,6 @@ use Rattle.lines.specs.Endings.{too-long, at-deck-end, at-lf, at-cr-lf, 
 use Rattle.lines.proofs.line_at.Statement.{statement}
 use Rattle.lines.proofs.line_at.Tie as tie
 
-plain-end-requires : tie.Need-plain-end-requires
-plain-end-requires c κs = search needs
-
-sub-if1 : tie.Need-sub-if1
-sub-if1 c = search needs
-
 returns : tie.Need-returns
 returns c =
     let s = c .before .before .before .args .s .now in
@@ -28,12 +22,6 @@ returns-2 c =
     at-deck-end s at (e .result) (c .before .if1 .left) (c .if2 .taken)
     ∙ ap (lineFrom s at) (e .ensures)
 
-shared-slice-read-b : tie.Need-shared-slice-read-b
-shared-slice-read-b c = search needs
-
-add-t10 : tie.Need-add-t10
-add-t10 c = search needs
-
 returns-3 : tie.Need-returns-3
 returns-3 c =
     let s = c .before .before .before .before .before .before .args .s .now in
@@ -41,18 +29,6 @@ returns-3 c =
     let e = c .before .before .before .before .plain-end in
     at-lf s at (e .result) (c .before .before .before .if1 .left) (c .before .before .if2 .left) (c .if3 .taken)
     ∙ ap (lineFrom s at) (e .ensures)
-
-add-if5 : tie.Need-add-if5
-add-if5 c = search needs
-
-add-d : tie.Need-add-d
-add-d c = search needs
-
-shared-slice-read-d : tie.Need-shared-slice-read-d
-shared-slice-read-d c = search needs
-
-add-t18 : tie.Need-add-t18
-add-t18 c = search needs
 
 returns-4 : tie.Need-returns-4
 returns-4 c =
@@ -90,17 +66,17 @@ pub line-at-spec : {M : Type 1} → statement M
 line-at-spec =
     tie.close
     (tie.spec
-    plain-end-requires
-    sub-if1
+    (λ c κs. search needs)
+    (λ c. search needs)
     returns
     returns-2
-    shared-slice-read-b
-    add-t10
+    (λ c. search needs)
+    (λ c. search needs)
     returns-3
-    add-if5
-    add-d
-    shared-slice-read-d
-    add-t18
+    (λ c. search needs)
+    (λ c. search needs)
+    (λ c. search needs)
+    (λ c. search needs)
     returns-4
     returns-5
     returns-6

@@ -11,11 +11,8 @@ returns c = empty-bad _ (c .if1 .taken)
 returns-2 : tie.Need-returns-2
 returns-2 c = long-bad _ (c .before .if1 .left) (c .if2 .taken)
 
-has-blank-requires : tie.Need-has-blank-requires
-has-blank-requires c κs = search needs
-
 returns-3 : tie.Need-returns-3
 returns-3 c = c .has-blank .ensures ∙ blank-bad _ (c .before .before .if1 .left) (c .before .if2 .left)
 
 pub bad-name-spec : {M : Type 1} → statement M
-bad-name-spec = tie.close (tie.spec returns returns-2 has-blank-requires returns-3)
+bad-name-spec = tie.close (tie.spec returns returns-2 (λ c κs. search needs) returns-3)

@@ -8,9 +8,6 @@ use Rattle.fields.specs.NameLaws.{name-none, name-some}
 use Rattle.fields.proofs.names.name_span.Statement.{statement}
 use Rattle.fields.proofs.names.name_span.Tie as tie
 
-first-place-requires : tie.Need-first-place-requires
-first-place-requires c κs = search needs
-
 returns : tie.Need-returns
 returns c =
     let a = c .before .before .before .args in
@@ -28,4 +25,4 @@ returns-2 c =
     ∙ ap (nameFrom (formOf (a .free)) (a .l .now)) (c .before .before .first-place .ensures)
 
 pub name-span-spec : {M : Type 1} → statement M
-name-span-spec = tie.close (tie.spec first-place-requires returns span-at-requires returns-2)
+name-span-spec = tie.close (tie.spec (λ c κs. search needs) returns span-at-requires returns-2)
