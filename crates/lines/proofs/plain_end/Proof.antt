@@ -18,15 +18,18 @@ abbrev μ-loop : tie.MeasureT-loop
 
 returns : tie.Need-returns Inv-loop μ-loop
 returns c =
-    omega (arith, run-stop isPlain (c .before .before .before .before .args .s .now) (c .before .before .before .loop .i) (search needs) (below-range 0x20 0x7E _ (c .if1 .taken)))
+    let p = c .before .before .before in
+    omega (arith, run-stop isPlain (p .before .args .s .now) (p .loop .i) (search needs) (below-range 0x20 0x7E _ (c .if1 .taken)))
 
 returns-2 : tie.Need-returns-2 Inv-loop μ-loop
 returns-2 c =
-    omega (arith, run-stop isPlain (c .before .before .before .before .before .args .s .now) (c .before .before .before .before .loop .i) (search needs) (above-range 0x20 0x7E _ (c .if2 .taken)))
+    let p = c .before .before .before .before in
+    omega (arith, run-stop isPlain (p .before .args .s .now) (p .loop .i) (search needs) (above-range 0x20 0x7E _ (c .if2 .taken)))
 
 loop-again : tie.Need-loop-again Inv-loop μ-loop
 loop-again c =
-    omega (arith, run-more isPlain (c .before .before .before .before .before .args .s .now) (c .before .before .before .before .loop .i) (search needs) (in-range 0x20 0x7E _ (c .before .if1 .left) (c .if2 .left)))
+    let p = c .before .before .before .before in
+    omega (arith, run-more isPlain (p .before .args .s .now) (p .loop .i) (search needs) (in-range 0x20 0x7E _ (c .before .if1 .left) (c .if2 .left)))
 
 returns-3 : tie.Need-returns-3 Inv-loop μ-loop
 returns-3 c = omega (arith, run-end isPlain (c .before .before .args .s .now) (c .before .loop .i) (search needs))

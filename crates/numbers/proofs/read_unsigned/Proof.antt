@@ -25,19 +25,21 @@ read-digits-requires-2 c κs = (search needs, search needs, omega (arith, ten-mo
 
 returns-3 : tie.Need-returns-3
 returns-3 c =
-    let d = c .before .before .before .before .before .read-digits in
+    let p = c .before .before .before .before in
+    let d = p .before .read-digits in
     let r = c .before .read-digits2 in
-    read-not-digits _ (c .before .before .before .before .before .before .before .args .s .now) (d .result) (d .ensures .0) (c .before .before .before .before .if1 .left) (c .before .before .if2 .left) (r .result) (r .ensures .0) (c .if3 .taken)
+    read-not-digits _ (p .before .before .before .args .s .now) (d .result) (d .ensures .0) (p .if1 .left) (c .before .before .if2 .left) (r .result) (r .ensures .0) (c .if3 .taken)
 
 count-digits-requires-2 : tie.Need-count-digits-requires-2
 count-digits-requires-2 c κs = omega (arith, c .before .read-digits2 .ensures .1, c .before .before .before .before .before .read-digits .ensures .1)
 
 returns-4 : tie.Need-returns-4
 returns-4 c =
-    let d = c .before .before .before .before .before .before .read-digits in
+    let p = c .before .before .before .before .before in
+    let d = p .before .read-digits in
     let r = c .before .before .read-digits2 in
     c .count-digits2 .ensures
-    ∙ read-places _ (c .before .before .before .before .before .before .before .before .args .s .now) (d .result) (d .ensures .0) (c .before .before .before .before .before .if1 .left) (c .before .before .before .if2 .left) (r .result) (r .ensures .0) (c .before .if3 .left)
+    ∙ read-places _ (p .before .before .before .args .s .now) (d .result) (d .ensures .0) (p .if1 .left) (c .before .before .before .if2 .left) (r .result) (r .ensures .0) (c .before .if3 .left)
 
 pub read-unsigned-spec : {M : Type 1} → statement M
 read-unsigned-spec =
