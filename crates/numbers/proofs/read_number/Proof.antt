@@ -9,7 +9,7 @@ use Rattle.meaning.specs.Words.{_=?_}
 use Rattle.meaning.specs.Numbers.{decimalOf}
 use Rattle.sequences.specs.Parts.{part, part-to-end}
 use Rattle.numbers.specs.Reading.{numberIs}
-use Rattle.numbers.specs.Fields.{blank-number, long-number, behind-sign, sign-one}
+use Rattle.numbers.specs.FieldNumbers.{blank-number, long-number, behind-sign, sign-one}
 use Rattle.numbers.proofs.read_number.Statement.{statement}
 use Rattle.numbers.proofs.read_number.Tie as tie
 

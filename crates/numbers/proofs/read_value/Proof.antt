@@ -2,7 +2,7 @@
 use borrow.Author.Needs.{needs}
 use mathlib.Core.Path.{_∙_, ap}
 use Rattle.meaning.specs.Numbers.{inUnits}
-use Rattle.numbers.specs.Fields.{number-small}
+use Rattle.numbers.specs.FieldNumbers.{number-small}
 use Rattle.numbers.proofs.read_value.Statement.{statement}
 use Rattle.numbers.proofs.read_value.Tie as tie
 

@@ -8,11 +8,10 @@ use native.Mathlib.Omega.{arith}
 use borrow.Author.Tests.{lt-leb, leb-true}
 use lib.ListN.{length, drop, getD, length-append, length-drop}
 use Rattle.meaning.specs.Words.{_=?_, _≤?_, _<?_, if_then_else_}
-use Rattle.meaning.specs.Numbers.{Number, NoNumber, Decimal, isSign, isDigit, isPoint, unsigned, beforePoint, behindPoint, allDigits, readOn, decimalOf, numberOf, Value, Malformed, Negative, Units, inUnits}
+use Rattle.meaning.specs.Numbers.{Number, NoNumber, Decimal, isSign, isDigit, isPoint, unsigned, beforePoint, behindPoint, allDigits, readOn, decimalOf, numberOf}
 use Rattle.sequences.specs.Choices.{both-hold}
 use Rattle.numbers.specs.Reading.{signLength}
 use Rattle.numbers.specs.Digits.{ten-below}
-use Rattle.numbers.specs.Units.{units-below}
 
 -- a point takes one byte at most
 all-but-one : (s : List ℕ) → length s ≤ length (beforePoint s ++ behindPoint s) + 1
@@ -100,22 +99,3 @@ pub number-small : (f : List ℕ) → Small (numberOf f)
 unfolding numberOf
 number-small [] = (omega arith, omega arith)
 number-small (b ∷ s) = decimal-small (b =? 0x2D) (unsigned (b ∷ s))
-
--- below 10 ^ 13 in units of four places at most
-abbrev pub SmallValue : Value → Type 0
-SmallValue Malformed = Unit {0}
-SmallValue Negative = Unit {0}
-SmallValue (Units v) = v < 10 ^ 13
-
-units-small : (allowed : ℕ) (n : Number) → allowed ≤ 4 → Small n → SmallValue (inUnits allowed n)
-unfolding inUnits if_then_else_
-units-small allowed NoNumber h small = tt
-units-small allowed (Decimal minus digits places) h small = go (allowed <? places) (minus && (0 <? digits))
-  where
-    go : (s t : Bool) → SmallValue (if s then Malformed else if t then Negative else Units (digits * 10 ^ (allowed - places)))
-    go true t = tt
-    go false true = tt
-    go false false = units-below digits (allowed - places) (small .0) (omega arith)
-
-pub value-small : (allowed : ℕ) (f : List ℕ) → allowed ≤ 4 → SmallValue (inUnits allowed (numberOf f))
-value-small allowed f h = units-small allowed (numberOf f) h (number-small f)
