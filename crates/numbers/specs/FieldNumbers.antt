@@ -7,7 +7,7 @@ use native.Mathlib.Nat.{mul-one, pow-zero, pow-succ'}
 use native.Mathlib.Omega.{arith}
 use borrow.Author.Tests.{lt-leb, leb-true}
 use lib.ListN.{length, drop, getD, length-append, length-drop}
-use Rattle.meaning.specs.Words.{_=?_, _≤?_, _<?_, if_then_else_}
+use Rattle.meaning.specs.Words.{_=?_, _≤?_, if_then_else_}
 use Rattle.meaning.specs.Numbers.{Number, NoNumber, Decimal, isSign, isDigit, isPoint, unsigned, beforePoint, behindPoint, allDigits, readOn, decimalOf, numberOf}
 use Rattle.sequences.specs.Choices.{both-hold}
 use Rattle.numbers.specs.Reading.{signLength}
