@@ -223,11 +223,11 @@ fn read_name(free: bool, l: &[u8]) -> Label
     requires { ⌜ length (now l) ≤ 80 ⌝ }
     ensures { λ r. ⌜ Labels (nameIn (formOf free) (now (l .entry))) r ⌝ }
 {
-    let span = names::name_span(free, l);
+    let span = fields::name_span(free, l);
     let from = span.from;
     let to = span.to;
     let f = &l[from..to];
-    if names::bad_name(f) {
+    if fields::bad_name(f) {
         return Label {
             bad: true,
             name: no_name(),
