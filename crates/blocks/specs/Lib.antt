@@ -7,4 +7,3 @@ pub mod Values
 pub mod Clearing
 pub mod Masks
 pub mod Kinds
-pub mod Unique

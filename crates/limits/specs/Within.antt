@@ -12,6 +12,7 @@ use native.Mathlib.Nat.{le-refl, le-trans}
 use mathlib.Core.Logic.{_⊎_, inl, inr}
 use lib.Seq.{set-out, getD-set-same, getD-set-other}
 use lib.ListN.{length, getD, set, replicate, length-set, length-append, length-replicate}
+use Rattle.sequences.specs.Refusals.{neither-met, not-met}
 use Rattle.sequences.specs.Choices.{below-or-not}
 use Rattle.meaning.specs.Words.{_=?_, if_then_else_, met, first}
 use Rattle.meaning.specs.Fields.{Form, fieldsOf, nameIn}
@@ -60,15 +61,6 @@ reach-limits b w given =
     let r = w .cards RM in
     record { some-steps = r .low given 0 (omega arith); few-steps = r .high 0; some-travel = r .low given 1 (omega arith); short-travel = r .high 1; low-weight = r .high 2 }
 
--- a chain of refusals that meets none
-first-none : (m n : ℕ) → first m n ≡ 0 → (m ≡ 0) × (n ≡ 0)
-first-none zero n e = (refl, e)
-first-none (suc m) n e = absurd (omega arith)
-
-met-none : (t : Bool) (k : ℕ) → met t (suc k) ≡ 0 → t ≡ false
-met-none true k e = absurd (omega arith)
-met-none false k e = refl
-
 -- what an item's line that is not refused has shown
 pub record Sound (τ : Time) (b : Block) (item : Item) (fs : List (List ℕ)) : Type 0 where
   pub once : repeated item b ≡ false
@@ -79,10 +71,10 @@ pub record Sound (τ : Time) (b : Block) (item : Item) (fs : List (List ℕ)) : 
 pub item-sound : (τ : Time) (b : Block) (item : Item) (fs : List (List ℕ)) → itemRefusal τ b item fs ≡ 0 → Sound τ b item fs
 unfolding itemRefusal
 item-sound τ b item fs e =
-    let f = first-none _ _ e in
-    let g = first-none _ _ (f .1) in
-    let h = first-none _ _ (g .1) in
-    record { once = met-none _ 4 (f .0); formed = met-none _ 5 (g .0); inside = met-none _ 6 (h .0); few = met-none _ 7 (h .1) }
+    let f = neither-met _ _ e in
+    let g = neither-met _ _ (f .1) in
+    let h = neither-met _ _ (g .1) in
+    record { once = not-met _ 4 (f .0); formed = not-met _ 5 (g .0); inside = not-met _ 6 (h .0); few = not-met _ 7 (h .1) }
 
 bound-append : (m : ℕ) (xs ys : List ℕ) → ((j : ℕ) → getD xs j 0 ≤ m) → ((j : ℕ) → getD ys j 0 ≤ m) → (j : ℕ) → getD (xs ++ ys) j 0 ≤ m
 bound-append m [] ys f g j = g j
@@ -185,11 +177,11 @@ unless-within (suc number) e f = tt
 time-read : (fs : List (List ℕ)) → timeRefusal fs ≡ 0 → TimeWithin (timeOf fs)
 unfolding timeRefusal timeOf
 time-read fs e =
-    let f = first-none _ _ e in
+    let f = neither-met _ _ e in
     let gs = filledUp timeRules fs in
     let long = filled-long timeRules fs in
-    let m = faulty-split timeRules 0 fs (4 - length fs) ∙ met-none _ 5 (f .0) in
-    let i = met-none _ 6 (f .1) in
+    let m = faulty-split timeRules 0 fs (4 - length fs) ∙ not-met _ 5 (f .0) in
+    let i = not-met _ 6 (f .1) in
     record {
       some-minutes = values-at-least timeRules 0 gs m i 0 (omega arith);
       few-minutes = values-at-most timeRules 0 gs i 0;
@@ -200,7 +192,7 @@ time-read fs e =
 named-within : (τ : Time) (form : Form) (name : List ℕ) → TimeWithin τ → EventWithin (unless (nameRefusal name) (Open (InBlock τ form (opened name))))
 unfolding nameRefusal
 named-within τ form name t =
-    unless-within (met (badName name) 6) (Open (InBlock τ form (opened name))) (λ e. (t, within-opened name (met-none (badName name) 5 e)))
+    unless-within (met (badName name) 6) (Open (InBlock τ form (opened name))) (λ e. (t, within-opened name (not-met (badName name) 5 e)))
 
 record-within : (r : Reading) (l : List ℕ) (k : Record) → ReadingWithin r → EventWithin (readRecord r l k)
 record-within (BeforeTime form) l ID w = tt

@@ -3,4 +3,3 @@ pub mod Line
 pub mod Plain
 pub mod Endings
 pub mod First
-pub mod Unique

@@ -1,19 +1,18 @@
 -- Plain bytes, and what a run of them says of the lines that a deck falls into: they are the front of its first line.
 use Prim.Native.Nat.{ℕ, suc, _<_}
 use mathlib.Core.Path.{_≡_, refl, ap}
-use mathlib.Core.Bool.{Bool, true, false, _&&_}
+use mathlib.Core.Bool.{Bool, true, false}
 use mathlib.Core.List.{List, [], _∷_, _++_}
 use native.Mathlib.Omega.{arith}
 use lib.ListN.{length, take, drop}
 use Rattle.meaning.specs.Words.{if_then_else_}
 use Rattle.meaning.specs.Lines.{lf, cr, inFront, linesOf, allPlain}
-use Rattle.sequences.specs.Runs.{run, every, test-tells}
+use Rattle.sequences.specs.Runs.{run, every, is-every, test-tells}
 use Rattle.lines.specs.Line.{isPlain}
 
 pub plain-every : (l : List ℕ) → allPlain l ≡ every isPlain l
-unfolding allPlain every
-plain-every [] = refl
-plain-every (b ∷ l) = ap (λ (t : Bool). isPlain b && t) (plain-every l)
+unfolding allPlain
+plain-every = is-every isPlain allPlain refl (λ b l. refl)
 
 -- bytes in front of the first line
 abbrev pub front : List ℕ → List (List ℕ) → List (List ℕ)

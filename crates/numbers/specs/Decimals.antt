@@ -2,7 +2,7 @@
 -- text whose first run of digits ends at `n`.
 use Prim.Native.Nat.{ℕ, suc, _+_, _-_, _≤_, _<_}
 use mathlib.Core.Path.{_≡_, refl, sym, _∙_, ap}
-use mathlib.Core.Bool.{Bool, true, false, _&&_}
+use mathlib.Core.Bool.{Bool, true, false}
 use mathlib.Core.List.{List, [], _∷_, _++_, append-nil, append-assoc}
 use native.Mathlib.Nat.{add-zero}
 use native.Mathlib.Numerals.{add-one}
@@ -12,14 +12,13 @@ use lib.ListN.{length, take, drop, getD, length-append, length-drop, drop-of-len
 use lib.Seq.{drop-cons, split-at, take-all, length-take-le}
 use Rattle.meaning.specs.Words.{if_then_else_}
 use Rattle.meaning.specs.Numbers.{NoNumber, isDigit, beforePoint, behindPoint, allDigits, readOn, decimalOf}
-use Rattle.sequences.specs.Runs.{run, every, run-within, run-stops, every-run, every-append, not-every, test-tells}
+use Rattle.sequences.specs.Runs.{run, every, run-within, run-stops, every-run, every-append, not-every, is-every, test-tells}
 use Rattle.numbers.specs.declared.Digits.{Digits}
 use Rattle.numbers.specs.Reading.{counted, digitsFrom}
 
-pub digits-every : (l : List ℕ) → allDigits l ≡ every isDigit l
-unfolding allDigits every
-digits-every [] = refl
-digits-every (b ∷ l) = ap (λ (t : Bool). isDigit b && t) (digits-every l)
+digits-every : (l : List ℕ) → allDigits l ≡ every isDigit l
+unfolding allDigits
+digits-every = is-every isDigit allDigits refl (λ b l. refl)
 
 readOn-append : (n : ℕ) (xs ys : List ℕ) → readOn n (xs ++ ys) ≡ readOn (readOn n xs) ys
 unfolding readOn

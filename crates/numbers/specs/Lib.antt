@@ -3,5 +3,4 @@ pub mod Reading
 pub mod Digits
 pub mod Units
 pub mod Decimals
-pub mod Fields
-pub mod Unique
+pub mod FieldNumbers

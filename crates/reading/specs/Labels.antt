@@ -6,6 +6,7 @@ use mathlib.Core.List.{List}
 use native.Mathlib.Omega.{arith}
 use borrow.Author.Tests.{ltb-false}
 use lib.ListN.{length, take}
+use Rattle.sequences.specs.Choices.{both-fail}
 use Rattle.meaning.specs.Words.{_<?_, empty}
 use Rattle.meaning.specs.Records.{anyBlank, badName}
 use Rattle.reading.specs.declared.Label.{Label}
@@ -16,10 +17,6 @@ pub record Labels (name : List ℕ) (r : Label) : Type 0 where
   pub short : r .name .letters ≤ 6
 
 -- a sound name has six bytes at most
-or-neither : (a b : Bool) → (a || b) ≡ false → (a ≡ false) × (b ≡ false)
-or-neither true b e = absurd (true≢false e)
-or-neither false b e = (refl, e)
-
 pub name-short : (name : List ℕ) → badName name ≡ false → length name ≤ 6
 unfolding badName
-name-short name e = omega (arith, ltb-false 6 (length name) (or-neither (empty name) (6 <? length name) (or-neither (empty name || (6 <? length name)) (anyBlank name) e .0) .1))
+name-short name e = omega (arith, ltb-false 6 (length name) (both-fail (empty name) (6 <? length name) (both-fail (empty name || (6 <? length name)) (anyBlank name) e .0) .1))

@@ -1,13 +1,7 @@
--- Definitions and laws of reading.
-pub mod Scanning
-pub mod Scans
-pub mod Fielding
-pub mod Stands
-pub mod Placing
-pub mod LineEvents
-pub mod Taking
-pub mod LinesTaken
-pub mod Left
+-- What the code's reading means, what a record does where it stands, what a line's values do, and what reading on comes to.
+pub mod Readings
+pub mod Places
+pub mod Taken
 pub mod Labels
-pub mod Getting
-pub mod Turning
+pub mod Found
+pub mod AtLine

@@ -4,4 +4,3 @@ pub mod Rows
 pub mod Rules
 pub mod Keys
 pub mod Blanks
-pub mod Unique

@@ -1,106 +1,63 @@
 -- Each way out is one way through the definition's tests, at the place where `plain_end` stopped.
-use mathlib.Core.Path.{_∙_, ap}
+use mathlib.Core.Path.{_≡_, _∙_, ap}
 use borrow.Author.Needs.{needs}
-use Rattle.lines.specs.Line.{lineFrom}
+use Rattle.lines.specs.declared.Line.{Line}
+use Rattle.lines.specs.Line.{lineFrom, lineAt}
 use Rattle.lines.specs.Endings.{too-long, at-deck-end, at-lf, at-cr-lf, at-other, at-cr, at-last-cr}
 use Rattle.lines.proofs.line_at.Statement.{statement}
 use Rattle.lines.proofs.line_at.Tie as tie
 
-plain-end-requires : tie.Need-plain-end-requires
-plain-end-requires c κs = search needs
-
-sub-if1 : tie.Need-sub-if1
-sub-if1 c = search needs
+-- What is right of the place where `plain_end` stopped is right of the line.
+answers : (c : tie.After-plain-end) {l : Line} → let a = c .before .before .args in l ≡ lineFrom (a .s .now) (a .at) (c .plain-end .result) → l ≡ lineAt (a .s .now) (a .at)
+answers c h = let a = c .before .before .args in h ∙ ap (lineFrom (a .s .now) (a .at)) (c .plain-end .ensures)
 
 returns : tie.Need-returns
-returns c =
-    let s = c .before .before .before .args .s .now in
-    let at = c .before .before .before .args .at in
-    let e = c .before .plain-end in
-    too-long s at (e .result) (c .if1 .taken)
-    ∙ ap (lineFrom s at) (e .ensures)
+returns c = answers (c .before) (too-long _ _ _ (c .if1 .taken))
 
 returns-2 : tie.Need-returns-2
-returns-2 c =
-    let s = c .before .before .before .before .args .s .now in
-    let at = c .before .before .before .before .args .at in
-    let e = c .before .before .plain-end in
-    at-deck-end s at (e .result) (c .before .if1 .left) (c .if2 .taken)
-    ∙ ap (lineFrom s at) (e .ensures)
-
-shared-slice-read-b : tie.Need-shared-slice-read-b
-shared-slice-read-b c = search needs
-
-add-t10 : tie.Need-add-t10
-add-t10 c = search needs
+returns-2 c = answers (c .before .before) (at-deck-end _ _ _ (c .before .if1 .left) (c .if2 .taken))
 
 returns-3 : tie.Need-returns-3
 returns-3 c =
-    let s = c .before .before .before .before .before .before .args .s .now in
-    let at = c .before .before .before .before .before .before .args .at in
-    let e = c .before .before .before .before .plain-end in
-    at-lf s at (e .result) (c .before .before .before .if1 .left) (c .before .before .if2 .left) (c .if3 .taken)
-    ∙ ap (lineFrom s at) (e .ensures)
-
-add-if5 : tie.Need-add-if5
-add-if5 c = search needs
-
-add-d : tie.Need-add-d
-add-d c = search needs
-
-shared-slice-read-d : tie.Need-shared-slice-read-d
-shared-slice-read-d c = search needs
-
-add-t18 : tie.Need-add-t18
-add-t18 c = search needs
+    let p = c .before .before in
+    answers (p .before .before) (at-lf _ _ _ (p .before .if1 .left) (p .if2 .left) (c .if3 .taken))
 
 returns-4 : tie.Need-returns-4
 returns-4 c =
-    let s = c .before .before .before .before .before .before .before .before .before .before .args .s .now in
-    let at = c .before .before .before .before .before .before .before .before .before .before .args .at in
-    let e = c .before .before .before .before .before .before .before .before .plain-end in
-    at-cr-lf s at (e .result) (c .before .before .before .before .before .before .before .if1 .left) (c .before .before .before .before .before .before .if2 .left) (c .before .before .before .before .if3 .left) (c .before .before .before .if4 .taken) (c .if6 .taken)
-    ∙ ap (lineFrom s at) (e .ensures)
+    let p = c .before .before .before .before in
+    answers (p .before .before .before .before)
+    (at-cr-lf _ _ _ (p .before .before .before .if1 .left) (p .before .before .if2 .left) (p .if3 .left) (c .before .before .before .if4 .taken) (c .if6 .taken))
 
 returns-5 : tie.Need-returns-5
 returns-5 c =
-    let s = c .before .before .before .before .before .before .before .before .before .before .args .s .now in
-    let at = c .before .before .before .before .before .before .before .before .before .before .args .at in
-    let e = c .before .before .before .before .before .before .before .before .plain-end in
-    at-cr s at (e .result) (c .before .before .before .before .before .before .before .if1 .left) (c .before .before .before .before .before .before .if2 .left) (c .before .before .before .before .if3 .left) (c .if6 .left)
-    ∙ ap (lineFrom s at) (e .ensures)
+    let p = c .before .before .before .before in
+    answers (p .before .before .before .before) (at-cr _ _ _ (p .before .before .before .if1 .left) (p .before .before .if2 .left) (p .if3 .left) (c .if6 .left))
 
 returns-6 : tie.Need-returns-6
 returns-6 c =
-    let s = c .before .before .before .before .before .before .before .before .args .s .now in
-    let at = c .before .before .before .before .before .before .before .before .args .at in
-    let e = c .before .before .before .before .before .before .plain-end in
-    at-last-cr s at (e .result) (c .before .before .before .before .before .if1 .left) (c .before .before .before .before .if2 .left) (c .before .before .if3 .left) (c .if5 .left)
-    ∙ ap (lineFrom s at) (e .ensures)
+    let p = c .before .before in
+    answers (p .before .before .before .before) (at-last-cr _ _ _ (p .before .before .before .if1 .left) (p .before .before .if2 .left) (p .if3 .left) (c .if5 .left))
 
 returns-7 : tie.Need-returns-7
 returns-7 c =
-    let s = c .before .before .before .before .before .before .before .args .s .now in
-    let at = c .before .before .before .before .before .before .before .args .at in
-    let e = c .before .before .before .before .before .plain-end in
-    at-other s at (e .result) (c .before .before .before .before .if1 .left) (c .before .before .before .if2 .left) (c .before .if3 .left) (c .if4 .left)
-    ∙ ap (lineFrom s at) (e .ensures)
+    let p = c .before in
+    answers (p .before .before .before .before) (at-other _ _ _ (p .before .before .before .if1 .left) (p .before .before .if2 .left) (p .if3 .left) (c .if4 .left))
 
 pub line-at-spec : {M : Type 1} → statement M
 line-at-spec =
     tie.close
     (tie.spec
-    plain-end-requires
-    sub-if1
+    (λ c κs. search needs)
+    (λ c. search needs)
     returns
     returns-2
-    shared-slice-read-b
-    add-t10
+    (λ c. search needs)
+    (λ c. search needs)
     returns-3
-    add-if5
-    add-d
-    shared-slice-read-d
-    add-t18
+    (λ c. search needs)
+    (λ c. search needs)
+    (λ c. search needs)
+    (λ c. search needs)
     returns-4
     returns-5
     returns-6

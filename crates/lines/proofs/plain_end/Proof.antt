@@ -16,29 +16,20 @@ Inv-loop s at i₀ i = at + run isPlain (drop at s) ≡ i + run isPlain (drop i 
 abbrev μ-loop : tie.MeasureT-loop
 μ-loop s at i₀ i = length s - i
 
-loop-holds : tie.Need-loop-holds Inv-loop μ-loop
-loop-holds c = search needs
-
-shared-slice-read-b : tie.Need-shared-slice-read-b Inv-loop μ-loop
-shared-slice-read-b c = search needs
-
 returns : tie.Need-returns Inv-loop μ-loop
 returns c =
-    omega (arith, run-stop isPlain (c .before .before .before .before .args .s .now) (c .before .before .before .loop .i) (search needs) (below-range 0x20 0x7E _ (c .if1 .taken)))
+    let p = c .before .before .before in
+    omega (arith, run-stop isPlain (p .before .args .s .now) (p .loop .i) (search needs) (below-range 0x20 0x7E _ (c .if1 .taken)))
 
 returns-2 : tie.Need-returns-2 Inv-loop μ-loop
 returns-2 c =
-    omega (arith, run-stop isPlain (c .before .before .before .before .before .args .s .now) (c .before .before .before .before .loop .i) (search needs) (above-range 0x20 0x7E _ (c .if2 .taken)))
-
-add-i : tie.Need-add-i Inv-loop μ-loop
-add-i c = search needs
-
-loop-less : tie.Need-loop-less Inv-loop μ-loop
-loop-less c = search needs
+    let p = c .before .before .before .before in
+    omega (arith, run-stop isPlain (p .before .args .s .now) (p .loop .i) (search needs) (above-range 0x20 0x7E _ (c .if2 .taken)))
 
 loop-again : tie.Need-loop-again Inv-loop μ-loop
 loop-again c =
-    omega (arith, run-more isPlain (c .before .before .before .before .before .args .s .now) (c .before .before .before .before .loop .i) (search needs) (in-range 0x20 0x7E _ (c .before .if1 .left) (c .if2 .left)))
+    let p = c .before .before .before .before in
+    omega (arith, run-more isPlain (p .before .args .s .now) (p .loop .i) (search needs) (in-range 0x20 0x7E _ (c .before .if1 .left) (c .if2 .left)))
 
 returns-3 : tie.Need-returns-3 Inv-loop μ-loop
 returns-3 c = omega (arith, run-end isPlain (c .before .before .args .s .now) (c .before .loop .i) (search needs))
@@ -49,11 +40,11 @@ plain-end-spec =
     (tie.spec
     Inv-loop
     μ-loop
-    loop-holds
-    shared-slice-read-b
+    (λ c. search needs)
+    (λ c. search needs)
     returns
     returns-2
-    add-i
-    loop-less
+    (λ c. search needs)
+    (λ c. search needs)
     loop-again
     returns-3)

@@ -6,9 +6,6 @@ use Rattle.numbers.specs.Reading.{counted}
 use Rattle.numbers.proofs.count_digits.Statement.{statement}
 use Rattle.numbers.proofs.count_digits.Tie as tie
 
-add-count : tie.Need-add-count
-add-count c = search needs
-
 returns : tie.Need-returns
 unfolding counted
 returns c = passed _ (below-range 1 9 _ (c .if1 .taken)) refl
@@ -22,4 +19,4 @@ unfolding counted
 returns-3 c = taken _ (in-range 1 9 _ (c .before .if1 .left) (c .if2 .left)) refl
 
 pub count-digits-spec : {M : Type 1} → statement M
-count-digits-spec = tie.close (tie.spec add-count returns returns-2 returns-3)
+count-digits-spec = tie.close (tie.spec (λ c. search needs) returns returns-2 returns-3)

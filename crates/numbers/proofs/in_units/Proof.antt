@@ -8,13 +8,10 @@ use Rattle.numbers.proofs.in_units.Statement.{statement}
 use Rattle.numbers.proofs.in_units.Tie as tie
 
 returns : tie.Need-returns
-returns c = too-many-places _ _ _ _ (c .if1 .taken)
+returns c = let a = c .before .args in too-many-places (a .allowed) (a .minus) (a .digits) (a .places) (c .if1 .taken)
 
 returns-2 : tie.Need-returns-2
 returns-2 c = below-zero _ _ _ _ (c .before .before .if1 .left) (c .before .if2 .taken) (c .if3 .taken)
-
-ten-to-requires : tie.Need-ten-to-requires
-ten-to-requires c κs = search needs
 
 mul-t9 : tie.Need-mul-t9
 mul-t9 c =
@@ -27,4 +24,4 @@ returns-3 c =
     (⊎-elim (λ w. minus-zero _ _ _ _ (c .before .before .if1 .left) (w .1 .left)) (λ w. not-below _ _ _ _ (c .before .before .if1 .left) (w .left)) (c .before .if2 .came))
 
 pub in-units-spec : {M : Type 1} → statement M
-in-units-spec = tie.close (tie.spec returns returns-2 ten-to-requires mul-t9 returns-3)
+in-units-spec = tie.close (tie.spec returns returns-2 (λ c κs. search needs) mul-t9 returns-3)

@@ -2,18 +2,9 @@
 use borrow.Author.Needs.{needs}
 use mathlib.Core.Path.{_∙_, ap}
 use Rattle.meaning.specs.Numbers.{inUnits}
-use Rattle.numbers.specs.Fields.{number-small}
+use Rattle.numbers.specs.FieldNumbers.{number-small}
 use Rattle.numbers.proofs.read_value.Statement.{statement}
 use Rattle.numbers.proofs.read_value.Tie as tie
-
-read-number-requires : tie.Need-read-number-requires
-read-number-requires c κs = search needs
-
-enum-told : tie.Need-enum-told
-enum-told c = search needs
-
-enum-known-minus : tie.Need-enum-known-minus
-enum-known-minus c = search needs
 
 in-units-requires : tie.Need-in-units-requires
 in-units-requires c κs =
@@ -31,4 +22,4 @@ returns-2 c = c .in-units .ensures ∙ ap (inUnits _) (rw (c .before .before .mi
 pub read-value-spec : {M : Type 1} → statement M
 read-value-spec =
     tie.close
-    (tie.spec read-number-requires enum-told enum-known-minus in-units-requires returns returns-2)
+    (tie.spec (λ c κs. search needs) (λ c. search needs) (λ c. search needs) in-units-requires returns returns-2)

@@ -1,46 +1,68 @@
--- By the phase.
-use Rattle.reading.specs.Stands.{timeIs}
+-- Each record is one law of where it stands.
+use mathlib.Core.Path.{_≡_, refl, sym}
+use mathlib.Core.Bool.{true, false}
 use borrow.Author.Needs.{needs}
+use Rattle.meaning.specs.Blocks.{repeated}
+use Rattle.blocks.specs.Meant.{timeIs, nameIs}
+use Rattle.blocks.specs.Cards.{blockOf}
+use Rattle.reading.specs.Places.{id-placed, it-placed, kk-placed, zz-placed, km-placed, control-placed, item-placed}
 use Rattle.reading.proofs.place_record.Statement.{statement}
 use Rattle.reading.proofs.place_record.Tie as tie
 
-enum-told : tie.Need-enum-told
-enum-told c = search needs
-
-stand-first-requires : tie.Need-stand-first-requires
-stand-first-requires c κs = search needs
-
-enum-told-2 : tie.Need-enum-told-2
-enum-told-2 c = search needs
-
-stand-second-requires : tie.Need-stand-second-requires
-stand-second-requires c κs = search needs
-
-enum-told-3 : tie.Need-enum-told-3
-enum-told-3 c = search needs
-
-stand-third-requires : tie.Need-stand-third-requires
-stand-third-requires c κs = search needs
+in-block-requires : tie.Need-in-block-requires
+in-block-requires c κs = (rw (c .before .k .given .1) at (c .before .before .before .before .pre .0), c .before .before .before .before .pre .1)
 
 returns : tie.Need-returns
-returns c = rw (c .before .enum-told .given .1) (λ rain units flow. c .stand-first .ensures .0, c .stand-first .ensures .1 (c .before .before .before .args .r .open))
+returns c = let x = c .before .before .before .before .args in rw (c .before .enum-told .given .1, c .before-time .ensures) (id-placed (timeIs (x .r .time)) (x .r .free) (nameIs (x .r .name)) (x .cards .now) (x .r .phase))
 
 returns-2 : tie.Need-returns-2
-returns-2 c = rw (c .before .enum-told2 .given .1) (λ rain units flow. c .stand-second .ensures .0 (timeIs (c .before .before .before .args .r)), c .stand-second .ensures .1 (c .before .before .before .args .r .open))
+returns-2 c = let x = c .before .before .before .before .args in rw (c .before .enum-told2 .given .1, c .before-time2 .ensures) (it-placed (timeIs (x .r .time)) (x .r .free) (nameIs (x .r .name)) (x .cards .now) (x .r .phase))
 
 returns-3 : tie.Need-returns-3
-returns-3 c = rw (c .before .before .enum-told3 .given .1) (λ rain units flow. c .stand-third .ensures .0 (timeIs (c .before .before .before .before .args .r)) rain units flow, c .stand-third .ensures .1)
+returns-3 c = let x = c .before .before .before .before .args in rw (c .before .enum-told3 .given .1, c .after-time .ensures) (kk-placed (timeIs (x .r .time)) (x .r .free) (nameIs (x .r .name)) (x .cards .now) (x .r .phase))
+
+returns-4 : tie.Need-returns-4
+returns-4 c = let x = c .before .before .before .args in rw (c .enum-told4 .given .1) (km-placed (timeIs (x .r .time)) (x .r .free) (nameIs (x .r .name)) (x .cards .now) (x .r .phase))
+
+returns-5 : tie.Need-returns-5
+returns-5 c = let x = c .before .before .before .before .args in rw (c .before .enum-told5 .given .1, c .after-time2 .ensures) (zz-placed (timeIs (x .r .time)) (x .r .free) (nameIs (x .r .name)) (x .cards .now) (x .r .phase))
+
+returns-6 : tie.Need-returns-6
+returns-6 c = let x = c .before .before .before .args in rw (c .enum-told6 .given .1) (control-placed (timeIs (x .r .time)) (x .r .free) (nameIs (x .r .name)) (x .cards .now) true (x .r .phase))
+
+returns-7 : tie.Need-returns-7
+returns-7 c = let x = c .before .before .before .args in rw (c .enum-told7 .given .1) (control-placed (timeIs (x .r .time)) (x .r .free) (nameIs (x .r .name)) (x .cards .now) false (x .r .phase))
+
+returns-8 : tie.Need-returns-8
+returns-8 c =
+    let x = c .before .before .before .before .before .args in
+    let item = c .before .before .k .given .0 .0 in
+    let inside = rw (c .before .before .k .given .1) at (c .before .before .before .before .before .pre .0) in
+    rw (c .before .before .k .given .1, c .in-block .ensures (nameIs (x .r .name)))
+    (item-placed (timeIs (x .r .time)) (x .r .free) (nameIs (x .r .name)) (x .cards .now) item (repeated item (blockOf (nameIs (x .r .name)) (x .cards .now))) inside (λ name. refl) (x .r .phase))
 
 pub place-record-spec : {M : Type 1} → statement M
 place-record-spec =
     tie.close
     (tie.spec
-    enum-told
-    stand-first-requires
-    enum-told-2
-    stand-second-requires
-    enum-told-3
-    stand-third-requires
+    (λ c. search needs)
+    (λ c κs. search needs)
+    (λ c. search needs)
+    (λ c κs. search needs)
+    (λ c. search needs)
+    (λ c κs. search needs)
+    (λ c. search needs)
+    (λ c. search needs)
+    (λ c κs. search needs)
+    (λ c. search needs)
+    (λ c. search needs)
+    (λ c. search needs)
+    in-block-requires
     returns
     returns-2
-    returns-3)
+    returns-3
+    returns-4
+    returns-5
+    returns-6
+    returns-7
+    returns-8)

@@ -4,7 +4,7 @@ use mathlib.Core.Bool.{true≢false}
 use native.Mathlib.Omega.{arith}
 use Rattle.meaning.specs.Records.{badName}
 use Rattle.fields.specs.Spans.{formOf}
-use Rattle.names.specs.Laws.{NameAt, name-found}
+use Rattle.fields.specs.NameLaws.{NameAt, name-found}
 use Rattle.reading.specs.Labels.{name-short}
 use borrow.Author.Needs.{needs}
 use Rattle.reading.proofs.read_name.Statement.{statement}

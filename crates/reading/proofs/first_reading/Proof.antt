@@ -1,0 +1,20 @@
+-- No record is there, so the words count none.
+use Prim.Native.Nat.{ℕ, zero-le}
+use mathlib.Core.Path.{_≡_, refl}
+use native.Mathlib.Omega.{arith}
+use borrow.Author.Needs.{needs}
+use Rattle.blocks.specs.Values.{counted-readable}
+use Rattle.reading.proofs.first_reading.Statement.{statement}
+use Rattle.reading.proofs.first_reading.Tie as tie
+
+returns : tie.Need-returns
+returns c =
+    let kept = c .before .before .before .clear .ensures .1 0 zero-le in
+    record {
+      is = refl;
+      phase = refl;
+      ready = record { few-ordinates = zero-le; short-name = c .no-name .ensures; readable = counted-readable kept; counted = λ e. kept };
+    }
+
+pub first-reading-spec : {M : Type 1} → statement M
+first-reading-spec = tie.close (tie.spec (λ c κs. search needs) (λ c κs. search needs) (λ c. search needs) returns)

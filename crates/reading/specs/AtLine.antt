@@ -1,0 +1,182 @@
+-- A turn of the loop over lines: what a line does carries the reading on, or is what was looked for.
+--     AtLine         what a turn knows of its line
+--     goes, refuses, opens-block, ends-deck    the four things that a line can do
+--     line-record    a line that holds a record
+--     pass-read      a pass over its fields that met no fault
+--     pass-fault     and one that met one
+use Prim.Native.Nat.{ℕ, zero, suc, _+_, _-_}
+use mathlib.Core.Path.{_≡_, refl, sym, ap, _∙_}
+use mathlib.Core.Bool.{Bool, true, false}
+use mathlib.Core.List.{List, [], _∷_}
+use lib.ListN.{drop}
+use Rattle.sequences.specs.Parts.{part}
+use Rattle.meaning.specs.Lines.{linesOf}
+use Rattle.meaning.specs.Fields.{Form, fieldsIn, fieldsOf}
+use Rattle.meaning.specs.Records as records
+use Rattle.meaning.specs.Records.{Item, Row, rulesIn, rulesOf, timeRules, badName, ruleAt, faultyField, anyFaulty}
+use Rattle.meaning.specs.Blocks.{Time}
+use Rattle.meaning.specs.Run as run
+use Rattle.meaning.specs.Run.{Event, Refuse, Go, Open, End, unless, timeRefusal, itemRefusal, nameRefusal, readRecord, readBy, readLine}
+use Rattle.limits.specs.ReadOn.{Found, Missing, Met, metBy, readOn}
+use Rattle.lines.specs.First.{FairAt, ForeignAt}
+use Rattle.fields.specs.Spans.{formOf, firstPlace}
+use Rattle.identifiers.specs.declared.Head.{Head}
+use Rattle.identifiers.specs.declared.Head.the-variants as head
+use Rattle.identifiers.specs.declared.Record.{Record}
+use Rattle.identifiers.specs.Heads.{recordIs, headIs, plainHead}
+use Rattle.identifiers.specs.Passed.{passed-head, foreign-head}
+use Rattle.records.specs.Rows.{fieldRow, rulesBy, block-row, few-rules, spanIn}
+use Rattle.records.specs.Blanks.{faulty-split, blank-listed}
+use Rattle.blocks.specs.Meant.{timeIs, nameIs}
+use Rattle.blocks.specs.Cards.{blockOf}
+use Rattle.scanning.specs.Pass.{Scanned, noted, scanFrom}
+use Rattle.scanning.specs.FieldsLeft.{leftFields, left-first}
+use Rattle.scanning.specs.WholeLine.{Fresh, LineRead, line-read}
+use Rattle.reading.specs.declared.Phase.{Phase}
+use Rattle.reading.specs.declared.Phase.the-variants as phase
+use Rattle.reading.specs.declared.Reading.{Reading}
+use Rattle.reading.specs.Readings.{readingBy, readingIs, blockIs, formIn, inForm, openedIn, Ready}
+use Rattle.reading.specs.Places.{Due, fieldsEvent, nameEvent}
+
+-- At `at` the line from there to `end` is the next, behind n lines; the reading stands at q, and comes to f.
+pub record AtLine (s : List ℕ) (at end next n : ℕ) (q : run.Reading) (f : Found) : Type 0 where
+  pub fair : FairAt s at end next
+  pub so-far : readOn (linesOf (drop at s)) q (n + 1) ≡ f
+
+module _ {s : List ℕ} {at end next n : ℕ} {q : run.Reading} {f : Found} (t : AtLine s at end next n q f) where
+  abbrev line : List ℕ
+  line = part at (end - at) s
+
+  abbrev rest : List (List ℕ)
+  rest = linesOf (drop next s)
+
+  turned : metBy (readLine q line) q (n + 1) rest (λ (r : run.Reading). readOn rest r (n + 1 + 1)) ≡ f
+  unfolding readOn
+  turned = rw (t .fair .lines) at (t .so-far)
+
+  pub goes : (r : run.Reading) → readLine q line ≡ Go r → readOn rest r (n + 1 + 1) ≡ f
+  goes r e = rw e at turned
+
+  pub refuses : (number : ℕ) → readLine q line ≡ Refuse number → f ≡ Met (Refuse number) q (n + 1) rest
+  refuses number e = sym (rw e at turned)
+
+  pub opens-block : (r : run.Reading) → readLine q line ≡ Open r → f ≡ Met (Open r) q (n + 1) rest
+  opens-block r e = sym (rw e at turned)
+
+  pub ends-deck : (τ : Time) → readLine q line ≡ End τ → f ≡ Met (End τ) q (n + 1) rest
+  ends-deck τ e = sym (rw e at turned)
+
+  -- by the line's head
+  headed : (h : Head) → headIs h ≡ plainHead line → readLine q line ≡ readBy (headIs h) q line
+  unfolding readLine
+  headed h e = rw (passed-head line (t .fair .sound), ← e)
+
+  pub line-skipped : (h : Head) → headIs h ≡ plainHead line → h ≡ head.Skipped → readLine q line ≡ Go q
+  line-skipped h e z = headed h e ∙ rw z
+
+  pub line-unknown : (h : Head) → headIs h ≡ plainHead line → h ≡ head.Unknown → readLine q line ≡ Refuse 4
+  line-unknown h e z = headed h e ∙ rw z
+
+  pub line-record : (h : Head) (k : Record) → headIs h ≡ plainHead line → h ≡ head.Holds k → readLine q line ≡ readRecord q line (recordIs k)
+  line-record h k e z = headed h e ∙ rw z
+
+-- a foreign line
+pub foreign-found : (s : List ℕ) (at n : ℕ) (q : run.Reading) (f : Found) → ForeignAt s at → readOn (linesOf (drop at s)) q (n + 1) ≡ f
+    → (p : run.Reading) × (later : List (List ℕ)) × (f ≡ Met (Refuse 3) p (n + 1) later)
+unfolding readOn readLine
+foreign-found s at n q f a e = (q, a .rest, sym (rw (a .lines, foreign-head (a .line) (a .met)) at e))
+
+-- past the last line
+pub none-found : (s : List ℕ) (at n : ℕ) (q : run.Reading) (f : Found) → drop at s ≡ [] → readOn (linesOf (drop at s)) q (n + 1) ≡ f
+    → (p : run.Reading) × (last : ℕ) × (f ≡ Missing p last)
+unfolding readOn linesOf
+none-found s at n q f z e = (q, n + 1, sym (rw z at e))
+
+-- FIELDS
+module _ (item : Item) (form : Form) (l : List ℕ) where
+  abbrev left : List (List ℕ)
+  left = leftFields form (spanIn (fieldRow item) 0) 0 (firstPlace form l) l
+
+  same-faults : anyFaulty (rulesBy item) 0 left ≡ anyFaulty (rulesBy item) 0 (fieldsOf form l)
+  same-faults =
+      let h = left-first form (spanIn (fieldRow item) 0) l in
+      ap (anyFaulty (rulesBy item) 0) (h .fields) ∙ faulty-split (rulesBy item) 0 (fieldsOf form l) (h .blanks)
+
+  pub pass-read : (s : Scanned) → Fresh s → anyFaulty (rulesBy item) 0 left ≡ false → LineRead (fieldRow item) (fieldsOf form l) (scanFrom (rulesBy item) 0 left s)
+  unfolding fieldsOf
+  pass-read s fresh sound =
+      let h = left-first form (spanIn (fieldRow item) 0) l in
+      rw (h .fields) (line-read (fieldRow item) (few-rules item) (blank-listed item) (fieldsIn form l) (h .blanks) s fresh (h .enough) (rw (h .fields) at sound))
+
+  pub pass-fault : anyFaulty (rulesBy item) 0 left ≡ true → anyFaulty (rulesBy item) 0 (fieldsOf form l) ≡ true
+  pass-fault e = sym same-faults ∙ e
+
+-- refusal 6
+fault-by : (p : Phase) (item : Item) (τ : Time) (form : Form) (name w : List ℕ) (fs : List (List ℕ)) → Due p item w → anyFaulty (rulesBy item) 0 fs ≡ true
+    → fieldsEvent item (readingBy p τ form (blockOf name w)) fs ≡ Refuse 6
+unfolding timeRefusal itemRefusal
+fault-by phase.BeforeTime item τ form name w fs due e =
+    let e′ : anyFaulty timeRules 0 fs ≡ true = rw due at e in
+    rw e′
+fault-by phase.BeforeBlocks item τ form name w fs due e = absurd due
+fault-by phase.InBlock item τ form name w fs due e =
+    let e′ : anyFaulty (rulesOf item) 0 fs ≡ true = ap (λ (row : Row). anyFaulty (rulesIn row) 0 fs) (sym (block-row item (due .0))) ∙ e in
+    rw (due .1 name, e′)
+
+pub fault-event : (item : Item) (r : Reading) (w : List ℕ) (fs : List (List ℕ)) → Due (r .phase) item w → anyFaulty (rulesBy item) 0 fs ≡ true
+    → fieldsEvent item (readingIs r w) fs ≡ Refuse 6
+fault-event item r w fs due e = fault-by (r .phase) item (timeIs (r .time)) (formOf (r .free)) (nameIs (r .name)) w fs due e
+
+-- THE READING IN ANOTHER FORM
+abbrev pub withFree : Reading → Bool → Reading
+withFree r free = record { phase = r .phase; free = free; time = r .time; name = r .name }
+
+pub in-form : (r : Reading) (free : Bool) (w : List ℕ) → readingIs (withFree r free) w ≡ inForm (formOf free) (readingIs r w)
+in-form r free w = by (r .phase)
+  where
+    by : (p : Phase) → readingBy p (timeIs (r .time)) (formOf free) (blockIs r w) ≡ inForm (formOf free) (readingBy p (timeIs (r .time)) (formOf (r .free)) (blockIs r w))
+    by phase.BeforeTime = refl
+    by phase.BeforeBlocks = refl
+    by phase.InBlock = refl
+
+pub ready-form : {r : Reading} {w : List ℕ} (free : Bool) → Ready r w → Ready (withFree r free) w
+ready-form free k = record { few-ordinates = k .few-ordinates; short-name = k .short-name; readable = k .readable; counted = k .counted }
+
+pub form-in : (r : Reading) (w : List ℕ) → formIn (readingIs r w) ≡ formOf (r .free)
+form-in r w = by (r .phase)
+  where
+    by : (p : Phase) → formIn (readingBy p (timeIs (r .time)) (formOf (r .free)) (blockIs r w)) ≡ formOf (r .free)
+    by phase.BeforeTime = refl
+    by phase.BeforeBlocks = refl
+    by phase.InBlock = refl
+
+-- NAMES
+pub name-bad : (q : run.Reading) (name : List ℕ) → badName name ≡ true → nameEvent q name ≡ Refuse 6
+unfolding nameRefusal
+name-bad q name e = rw e
+
+pub name-good : (q : run.Reading) (name : List ℕ) → badName name ≡ false → nameEvent q name ≡ Open (openedIn q name)
+unfolding nameRefusal
+name-good q name e = rw e
+
+-- a refusal that is met
+pub unless-met : (n : ℕ) (e : Event) → (n ≡ 0 → ⊥) → unless n e ≡ Refuse n
+unless-met zero e h = absurd (h refl)
+unless-met (suc n) e h = refl
+
+pub unless-none : (n : ℕ) (e : Event) → n ≡ 0 → unless n e ≡ e
+unless-none n e z = rw z
+
+-- ONE FIELD NOTED
+module _ (rules : List records.Rule) (i : ℕ) (f : List ℕ) (later all : List (List ℕ)) where
+  pub fault-here : faultyField (ruleAt rules i) f ≡ true → anyFaulty rules i (f ∷ later) ≡ anyFaulty rules 0 all → anyFaulty rules 0 all ≡ true
+  unfolding anyFaulty
+  fault-here e h = sym h ∙ rw e
+
+  pub fault-later : faultyField (ruleAt rules i) f ≡ false → anyFaulty rules i (f ∷ later) ≡ anyFaulty rules 0 all → anyFaulty rules (i + 1) later ≡ anyFaulty rules 0 all
+  unfolding anyFaulty
+  fault-later e h = rw e at h
+
+  pub scan-later : (s s′ t : Scanned) → s′ ≡ noted rules i f s → scanFrom rules i (f ∷ later) s ≡ t → scanFrom rules (i + 1) later s′ ≡ t
+  unfolding scanFrom
+  scan-later s s′ t e h = rw e h
