@@ -17,27 +17,26 @@ use Rattle.meaning.specs.Run.{InBlock, Open, End, Standing, openRefusal, closed
 use Rattle.limits.specs.ReadOn.{Met, readOn}
 use Rattle.limits.specs.Times.{Timed, FoundTimed, found-timed}
 use Rattle.fields.specs.Spans.{formOf}
-use Rattle.blocks.specs.Open.{blockOf}
 use Rattle.reading.specs.declared.Phase.{Phase}
 use Rattle.reading.specs.declared.Phase.the-variants as phase
 use Rattle.reading.specs.declared.Reading.{Reading}
-use Rattle.reading.specs.declared.Name.{Name}
-use Rattle.reading.specs.Stands.{readingIs, readingBy, timeIs, timeIn, formIn}
-use Rattle.reading.specs.Taking.{Ready}
-use Rattle.reading.specs.Getting.{nameIs, openedIn}
+use Rattle.blocks.specs.declared.Name.{Name}
+use Rattle.blocks.specs.declared.Time as times
+use Rattle.blocks.specs.Meant.{timeIs, nameIs}
+use Rattle.reading.specs.Readings.{readingIs, readingBy, timeIn, formIn, Ready, openedIn, blockIs}
 use Rattle.stack.specs.declared.Stack.{Stack}
 use Rattle.stack.specs.View.{view, length-held}
-use Rattle.closing.specs.declared.Finished.{Finished}
-use Rattle.closing.specs.Holding.{view-last}
-use Rattle.closing.specs.Finishing.{copiedFirst}
-use Rattle.closing.specs.Carrying.{Carried, carried-named, carried-last}
+use Rattle.walking.specs.declared.Finished.{Finished}
+use Rattle.closing.specs.LastHeld.{view-last}
+use Rattle.closing.specs.WrittenResult.{copiedFirst}
+use Rattle.closing.specs.BetweenBlocks.{Carried, carried-named, carried-last}
 use Rattle.walking.specs.declared.State.{State}
 use Rattle.walking.specs.declared.Turn.{Turn}
-use Rattle.walking.specs.Passing.{open-refused, open-too-many, open-goes, end-refused, end-not-one, end-done}
-use Rattle.walking.specs.Standing.{standing, CountBy, Going, DoneIs, ClosedBy}
+use Rattle.walking.specs.Events.{open-refused, open-too-many, open-goes, end-refused, end-not-one, end-done}
+use Rattle.walking.specs.Going.{standing, CountBy, Going, DoneIs, ClosedBy}
 use Rattle.walking.specs.Turns.{GoesOn}
-use Rattle.walking.specs.Moving.{Moved, limits, moved}
-use Rattle.walking.specs.Closings.{ClosedWell, closed-number, closed-well}
+use Rattle.walking.specs.ReadingOn.{Moved, limits, moved}
+use Rattle.walking.specs.OpenClosed.{ClosedWell, closed-number, closed-well}
 
 -- after IT the reading has the time control that its struct says
 timed-by : (p : Phase) (τ : Time) (form : Form) (b : Block) → Timed (readingBy p τ form b) → (timeIn (readingBy p τ form b) ≡ τ) × (formIn (readingBy p τ form b) ≡ form)
@@ -87,44 +86,44 @@ last-by phase.BeforeBlocks τ form b st depth nq n m y w ordinates records count
 last-by phase.InBlock τ form b st depth nq n m y w ordinates records count held e some room c =
     rw (view-last y nq w e .flow) (carried-last (st .results) (record { block = b; held = heldFor τ b (st .held) }) c room)
 
-module _ (deck : List ℕ) (named n m : ℕ) (s : State) (work ordinates records rain units flow : List ℕ) (g : Going deck named n m s work ordinates records rain units flow)
-    (r : Reading) (line : ℕ) (rest : List (List ℕ)) (rain′ units′ flow′ : List ℕ) (ready : Ready r rain′ units′ flow′)
+module _ (deck : List ℕ) (named n m : ℕ) (s : State) (work ordinates records cards : List ℕ) (g : Going deck named n m s work ordinates records cards)
+    (r : Reading) (line : ℕ) (rest : List (List ℕ)) (cards′ : List ℕ) (ready : Ready r cards′)
     (x : Finished) (work′ ordinates′ records′ : List ℕ)
-    (c : ClosedBy (r .phase) r (s .held) (s .blocks) named x work work′ ordinates ordinates′ records records′ rain′ units′ flow′) where
+    (c : ClosedBy (r .phase) r (s .held) (s .blocks) named x work work′ ordinates ordinates′ records records′ cards′) where
   abbrev lines : List (List ℕ)
   lines = linesOf (drop (s .at) deck)
 
   abbrev from : run.Reading
-  from = readingIs (s .reading) rain units flow
+  from = readingIs (s .reading) cards
 
   abbrev q : run.Reading
-  q = readingIs r rain′ units′ flow′
+  q = readingIs r cards′
 
   abbrev stand : Standing
-  stand = standing (s .blocks) (view (s .held) (r .ordinates) work) (g .results)
+  stand = standing (s .blocks) (view (s .held) (r .time .ordinates) work) (g .results)
 
   -- the walk so far, with what is held seen by the reading that is reached
   module _ (e : run.Event) (found : readOn lines from (s .line + 1) ≡ Met e q line rest) where
     abbrev move : Moved named n m s r (g .results) work ordinates records
-    move = moved deck named n m s work ordinates records rain units flow g e r line rest rain′ units′ flow′ found ready
+    move = moved deck named n m s work ordinates records cards g e r line rest cards′ found ready
 
     walked : walk lines from stand (s .line + 1) ≡ worked deck
     walked = rw (move .same) (g .walked)
 
     number : openRefusal q stand ≡ x .refusal
-    number = sym (closed-number named n m r (s .held) (s .blocks) x work work′ ordinates ordinates′ records records′ rain′ units′ flow′ (g .results) c)
+    number = sym (closed-number named n m r (s .held) (s .blocks) x work work′ ordinates ordinates′ records records′ cards′ (g .results) c)
 
     module _ (lw : length work′ ≡ length work) (lo : length ordinates′ ≡ length ordinates) (lr : length records′ ≡ length records) (none : x .refusal ≡ 0) where
-      pub well : ClosedWell named n m q stand (r .ordinates) x work′ ordinates′ records′
+      pub well : ClosedWell named n m q stand (r .time .ordinates) x work′ ordinates′ records′
       well =
-          closed-well named n m r (s .held) (s .blocks) x work work′ ordinates ordinates′ records records′ rain′ units′ flow′ (g .results) (move .held) (move .carried) lw lo lr none
-          (limits deck named n m s work ordinates records rain units flow g e r line rest rain′ units′ flow′ found ready .1) (move .count) c
+          closed-well named n m r (s .held) (s .blocks) x work work′ ordinates ordinates′ records records′ cards′ (g .results) (move .held) (move .carried) lw lo lr none
+          (limits deck named n m s work ordinates records cards g e r line rest cards′ found ready .1) (move .count) c
 
       pub as-many : length (closed q stand .results) ≡ s .blocks
-      as-many = results-by (r .phase) (timeIs r) (formOf (r .free)) (blockOf (r .open) rain′ units′ flow′) stand (s .held .depth) (move .count)
+      as-many = results-by (r .phase) (timeIs (r .time)) (formOf (r .free)) (blockIs r cards′) stand (s .held .depth) (move .count)
 
       pub depth-is : x .held .depth ≡ length (closed q stand .held)
-      depth-is = sym (length-held (r .ordinates) (x .held .areas) (x .held .depth) work′) ∙ ap length (well .held-is)
+      depth-is = sym (length-held (r .time .ordinates) (x .held .areas) (x .held .depth) work′) ∙ ap length (well .held-is)
 
   -- KK
   module _ (name : Name) (found : readOn lines from (s .line + 1) ≡ Met (Open (openedIn q (nameIs name))) q line rest) where
@@ -139,23 +138,23 @@ module _ (deck : List ℕ) (named n m : ℕ) (s : State) (work ordinates records
 
     module _ (at : ℕ) (here : rest ≡ linesOf (drop at deck)) (up : at ≤ length deck) (counted : line ≤ at) (few : s .blocks < 200)
         (lw : length work′ ≡ length work) (lo : length ordinates′ ≡ length ordinates) (lr : length records′ ≡ length records) (none : x .refusal ≡ 0)
-        (t : Turn) (goes : GoesOn r (x .held) name at line (s .blocks) t) where
-      timed : (timeIn q ≡ timeIs r) × (formIn q ≡ formOf (r .free))
-      timed = timed-by (r .phase) (timeIs r) (formOf (r .free)) (blockOf (r .open) rain′ units′ flow′) (subst FoundTimed found (found-timed lines from (s .line + 1)))
+        (t : Turn) (cards″ : List ℕ) (goes : GoesOn r (x .held) name at line (s .blocks) t cards″) where
+      timed : (timeIn q ≡ timeIs (r .time)) × (formIn q ≡ formOf (r .free))
+      timed = timed-by (r .phase) (timeIs (r .time)) (formOf (r .free)) (blockIs r cards′) (subst FoundTimed found (found-timed lines from (s .line + 1)))
 
       abbrev reading : Reading
       reading = t .state .reading
 
-      same-next : readingIs reading rain′ units′ flow′ ≡ next
-      same-next = goes .reading .is rain′ units′ flow′ ∙ rw (timed .0, timed .1)
+      same-next : readingIs reading cards″ ≡ next
+      same-next = goes .reading .is ∙ rw (timed .0, timed .1)
 
-      nq : reading .ordinates ≡ r .ordinates
-      nq = goes .reading .ordinates
+      nq : reading .time .ordinates ≡ r .time .ordinates
+      nq = goes .reading .time .ordinates
 
-      more : oneMore (closed q stand) ≡ standing (s .blocks + 1) (view (x .held) (r .ordinates) work′) (closed q stand .results)
-      more = rw (blocks-by (r .phase) (timeIs r) (formOf (r .free)) (blockOf (r .open) rain′ units′ flow′) stand, well (Open next) found lw lo lr none .held-is)
+      more : oneMore (closed q stand) ≡ standing (s .blocks + 1) (view (x .held) (r .time .ordinates) work′) (closed q stand .results)
+      more = rw (blocks-by (r .phase) (timeIs (r .time)) (formOf (r .free)) (blockIs r cards′) stand, well (Open next) found lw lo lr none .held-is)
 
-      pub kk-goes : Going deck named n m (t .state) work′ ordinates′ records′ rain′ units′ flow′
+      pub kk-goes : Going deck named n m (t .state) work′ ordinates′ records′ cards″
       kk-goes =
           let w = well (Open next) found lw lo lr none in
           let many = as-many (Open next) found lw lo lr none in
@@ -163,8 +162,8 @@ module _ (deck : List ℕ) (named n m : ℕ) (s : State) (work ordinates records
             results = closed q stand .results;
             up = rw (goes .place) up;
             counted = rw (goes .place, goes .lines) counted;
-            ready = goes .reading .ready rain′ units′ flow′ (ready .few-ordinates) (record { rain-room = ready .rain-room; unit-room = ready .unit-room; flow-room = ready .flow-room });
-            within = rw same-next (limits deck named n m s work ordinates records rain units flow g (Open next) r line rest rain′ units′ flow′ found ready .0);
+            ready = goes .reading .ready;
+            within = rw same-next (limits deck named n m s work ordinates records cards g (Open next) r line rest cards′ found ready .0);
             held = rw (goes .holds, nq) (w .held);
             count = rw (goes .reading .phase, goes .count, many) (refl, omega arith);
             carried = rw nq (w .carried);
@@ -187,34 +186,34 @@ module _ (deck : List ℕ) (named n m : ℕ) (s : State) (work ordinates records
           sym (walked (End (timeIn q)) found)
           ∙ end-not-one lines from stand (s .line + 1) (timeIn q) q line rest found (number (End (timeIn q)) found ∙ none) (λ e. other (depth ∙ e))
 
-      module _ (one : x .held .depth ≡ 1) (ordinates″ : List ℕ) (copied : ordinates″ ≡ copiedLast named (r .ordinates) (part (300 * (x .held .depth - 1)) (r .ordinates) work′) ordinates′) where
+      module _ (one : x .held .depth ≡ 1) (ordinates″ : List ℕ) (copied : ordinates″ ≡ copiedLast named (r .time .ordinates) (part (300 * (x .held .depth - 1)) (r .time .ordinates) work′) ordinates′) where
         done : worked deck ≡ Done (timeIn q) (closed q stand .results)
         done =
             sym (walked (End (timeIn q)) found)
             ∙ end-done lines from stand (s .line + 1) (timeIn q) q line rest found (number (End (timeIn q)) found ∙ none) (sym depth ∙ one)
 
-        abbrev w : ClosedWell named n m q stand (r .ordinates) x work′ ordinates′ records′
+        abbrev w : ClosedWell named n m q stand (r .time .ordinates) x work′ ordinates′ records′
         w = well (End (timeIn q)) found lw lo lr none
 
-        flow-by : (t : Bool) → (named =? 0) ≡ t → named ≤ length (closed q stand .results) → r .ordinates ≤ n
-            → copiedLast named (r .ordinates) (part (300 * (x .held .depth - 1)) (r .ordinates) work′) ordinates′ ≡ namedFlow named (closed q stand .results) ++ replicate (n - r .ordinates) 0
+        flow-by : (t : Bool) → (named =? 0) ≡ t → named ≤ length (closed q stand .results) → r .time .ordinates ≤ n
+            → copiedLast named (r .time .ordinates) (part (300 * (x .held .depth - 1)) (r .time .ordinates) work′) ordinates′ ≡ namedFlow named (closed q stand .results) ++ replicate (n - r .time .ordinates) 0
         flow-by true e few room =
             let last : named ≡ 0 = eqb-true named 0 e in
             sym (taken _ e refl)
-            ∙ rw last (last-by (r .phase) (timeIs r) (formOf (r .free)) (blockOf (r .open) rain′ units′ flow′) stand (s .held .depth) (r .ordinates) n m (x .held) work′ ordinates′ records′
-            (move (End (timeIn q)) found .count) (length-held (r .ordinates) (s .held .areas) (s .held .depth) work) (w .held-is) (omega arith) room
-            (subst (λ (k : ℕ). Carried k (r .ordinates) n m (closed q stand .results) ordinates′ records′) last (w .carried)))
+            ∙ rw last (last-by (r .phase) (timeIs (r .time)) (formOf (r .free)) (blockIs r cards′) stand (s .held .depth) (r .time .ordinates) n m (x .held) work′ ordinates′ records′
+            (move (End (timeIn q)) found .count) (length-held (r .time .ordinates) (s .held .areas) (s .held .depth) work) (w .held-is) (omega arith) room
+            (subst (λ (k : ℕ). Carried k (r .time .ordinates) n m (closed q stand .results) ordinates′ records′) last (w .carried)))
         flow-by false e few room =
             let some : named ≡ 0 → ⊥ = eqb-false named 0 e in
             sym (passed _ e refl) ∙ carried-named (w .carried) (one-up named some) few room
 
-        pub zz-done : DoneIs deck named n m (r .ordinates) (s .blocks) ordinates″ records′
+        pub zz-done : DoneIs deck named n m (r .time .ordinates) (s .blocks) ordinates″ records′
         zz-done =
             record {
               time = timeIn q;
               results = closed q stand .results;
               done = done;
-              ordinates-are = ap (λ (τ : Time). τ .ordinates) (timed-by (r .phase) (timeIs r) (formOf (r .free)) (blockOf (r .open) rain′ units′ flow′) (subst FoundTimed found (found-timed lines from (s .line + 1))) .0);
+              ordinates-are = ap (λ (τ : Time). τ .ordinates) (timed-by (r .phase) (timeIs (r .time)) (formOf (r .free)) (blockIs r cards′) (subst FoundTimed found (found-timed lines from (s .line + 1))) .0);
               blocks-are = as-many (End (timeIn q)) found lw lo lr none;
               few = few-by (r .phase) (s .blocks) (length (g .results)) (s .held .depth) (move (End (timeIn q)) found .count);
               told = w .carried .told;
