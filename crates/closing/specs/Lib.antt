@@ -1,6 +1,8 @@
--- What closing and finishing a block leaves, what the run carries from block to block, and the laws of both.
-pub mod Holding
-pub mod Closing
-pub mod Finishing
-pub mod Carrying
+-- What closing a block leaves, what is written of it, what the run carries from block to block, and the laws of all three.
+pub mod LastHeld
+pub mod Sizes
+pub mod ClosedBlock
+pub mod WrittenResult
+pub mod NamedOrdinates
+pub mod BetweenBlocks
 pub mod Unique

@@ -1,16 +1,14 @@
 -- Two outcomes that meet the contract of a public function are equal.
 use Prim.Native.Nat.{ℕ, _-_, _*_}
-use mathlib.Core.Path.{_≡_, sym, ap, _∙_}
+use mathlib.Core.Path.{_≡_}
 use mathlib.Core.List.{List}
 use Rattle.sequences.specs.Outcomes.{one-outcome}
 use Rattle.sequences.specs.Parts.{part}
-use Rattle.meaning.specs.Blocks.{Time, Block, kindOf}
+use Rattle.meaning.specs.Blocks.{Time, Block}
 use Rattle.stack.specs.declared.Stack.{Stack}
 use Rattle.closing.specs.declared.Closed.{Closed}
-use Rattle.closing.specs.declared.Finished.{Finished}
-use Rattle.forming.specs.Forming.{stackAfter}
-use Rattle.closing.specs.Closing.{Closes}
-use Rattle.closing.specs.Finishing.{copiedFirst, recordsAfter, ordinatesAfter, resultOf, Finishes}
+use Rattle.closing.specs.ClosedBlock.{Closes}
+use Rattle.closing.specs.WrittenResult.{recordTold, recordPut, copiedFirst, copiedNamed}
 
 -- close_block: the answer and the words
 pub closed-once : (τ : Time) (b : Block) (s : Stack) (w : List ℕ) (one other : Closed) (w′ v′ : List ℕ)
@@ -22,20 +20,11 @@ pub copied-once : (work ordinates : List ℕ) (s : Stack) (nq : ℕ) (one other 
     → one ≡ copiedFirst nq (part (300 * (s .depth - 1)) nq work) ordinates → other ≡ copiedFirst nq (part (300 * (s .depth - 1)) nq work) ordinates → one ≡ other
 copied-once work ordinates s nq one other = one-outcome
 
--- finish_block: the answer and all that is lent
-module _ (τ : Time) (b : Block) (s : Stack) (named k : ℕ) (one other : Finished) (w ordinates records : List ℕ) where
-  finished-answer : (w′ v′ os ps rs qs : List ℕ) → Finishes τ b s named k one w w′ ordinates os records rs → Finishes τ b s named k other w v′ ordinates ps records qs → one ≡ other
-  finished-answer w′ v′ os ps rs qs p q =
-      let number = one-outcome (p .number) (q .number) in
-      let held = p .stack ∙ ap (λ (n : ℕ). stackAfter n (kindOf b) b s) number ∙ sym (q .stack) in
-      rw (number, held)
+-- write_result: the ordinates and the records
+abbrev Writes : (name : List ℕ) (c : Closed) (k named nq : ℕ) (work ordinates records os rs : List ℕ) → Type 0
+Writes name c k named nq work ordinates records os rs =
+    (os ≡ copiedNamed named k nq (part (300 * (c .held .depth - 1)) nq work) ordinates) × (rs ≡ recordPut k (recordTold name c) records)
 
-  pub finished-once : (w′ v′ os ps rs qs : List ℕ) → Finishes τ b s named k one w w′ ordinates os records rs → Finishes τ b s named k other w v′ ordinates ps records qs
-      → (one ≡ other) × (w′ ≡ v′) × (os ≡ ps) × (rs ≡ qs)
-  finished-once w′ v′ os ps rs qs p q =
-      let number = one-outcome (p .number) (q .number) in (
-        finished-answer w′ v′ os ps rs qs p q,
-        one-outcome (p .words) (q .words),
-        p .copied ∙ ap (λ (n : ℕ). ordinatesAfter n named k (τ .ordinates) (resultOf τ b s w) ordinates) number ∙ sym (q .copied),
-        p .written ∙ ap (λ (n : ℕ). recordsAfter n k (resultOf τ b s w) records) number ∙ sym (q .written),
-      )
+pub written-once : (name : List ℕ) (c : Closed) (k named nq : ℕ) (work ordinates records os ps rs qs : List ℕ)
+    → Writes name c k named nq work ordinates records os rs → Writes name c k named nq work ordinates records ps qs → (os ≡ ps) × (rs ≡ qs)
+written-once name c k named nq work ordinates records os ps rs qs p q = (one-outcome (p .0) (q .0), one-outcome (p .1) (q .1))

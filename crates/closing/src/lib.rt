@@ -1,17 +1,20 @@
-// Where KK or ZZ closes a block: its hydrograph is formed and held and its flows are looked at; then its result is written.
+// Where KK or ZZ closes a block: its hydrograph is made and held and its flows are looked at; then its result is written.
 ghost use mathlib.Core.Path.{_≡_};
-ghost use Prim.Native.Nat.{_-_, _*_, _≤_};
-ghost use lib.ListN.{length, take, getD};
+ghost use mathlib.Core.List.{List};
+ghost use Prim.Native.Nat.{ℕ, _-_, _*_, _≤_};
+ghost use lib.ListN.{length, getD};
 ghost use Rattle.sequences.specs.Bounds.{AllUpTo};
 ghost use Rattle.sequences.specs.Parts.{part};
-ghost use Rattle.blocks.specs.Open.{blockOf, timeOf};
+ghost use Rattle.blocks.specs.Meant.{timeIs, nameIs};
+ghost use Rattle.blocks.specs.Cards.{blockOf};
 ghost use Rattle.stack.specs.View.{Fits};
 ghost use Rattle.results.specs.Summary.{summaryOf};
-ghost use Rattle.results.specs.Record.{recordBytes};
-ghost use Rattle.forming.specs.Forming.{Closable};
-ghost use Rattle.closing.specs.Closing.{refusedBlock, Closes};
-ghost use Rattle.closing.specs.Finishing.{recordPut, copiedFirst, copiedNamed, Finishes};
-use blocks::Open;
+ghost use Rattle.shaping.specs.Limits.{Read};
+ghost use Rattle.making.specs.Made.{HeldWithin};
+ghost use Rattle.closing.specs.ClosedBlock.{refusedBlock, Closes};
+ghost use Rattle.closing.specs.WrittenResult.{recordTold, recordPut, copiedFirst, copiedNamed};
+use blocks::Name;
+use blocks::Time;
 use results::Summary;
 use stack::Stack;
 
@@ -44,6 +47,14 @@ fn refuse(refusal: u64, held: Stack) -> Closed
     }
 }
 
+// Where the hydrograph held last begins in the work words.
+fn last_place(held: Stack) -> usize
+    requires { ⌜ (1 ≤ held .depth) × (held .depth ≤ 20) ⌝ }
+    ensures { λ r. ⌜ r ≡ 300 * (held .depth - 1) ⌝ }
+{
+    300 * (held.depth - 1)
+}
+
 // The area of the hydrograph held last.
 fn last_area(held: Stack) -> u32
     requires { ⌜ (1 ≤ held .depth) × (held .depth ≤ 20) ⌝ }
@@ -59,30 +70,23 @@ fn summarize_last(work: &[u64], held: Stack, nq: usize) -> Summary
     requires { ⌜ AllUpTo 18_000_000_000_000_000 (part (300 * (held .depth - 1)) nq (now work)) ⌝ }
     ensures { λ r. ⌜ r ≡ summaryOf (part (300 * (held .depth - 1)) nq (now (work .entry))) ⌝ }
 {
-    let p = 300 * (held.depth - 1);
+    let p = last_place(held);
     results::summarize(&work[p..p + nq])
 }
 
 // The open block closed. Where it is refused, the work words are of no more use: the run zeroes all of them.
-pub fn close_block(
-    work: &mut [u64],
-    held: Stack,
-    nq: usize,
-    minutes: u64,
-    o: Open,
-    rain: &[u64],
-    units: &[u64],
-    flow: &[u64],
-) -> Closed
-    requires { ⌜ Closable minutes nq o (now rain) (now units) (now flow) held (now work) ⌝ }
-    ensures { λ r. ⌜ Closes (timeOf minutes nq) (blockOf o (now (rain .entry)) (now (units .entry)) (now (flow .entry))) held (now (work .entry)) r (now (work .exit)) ⌝ }
+pub fn close_block(work: &mut [u64], held: Stack, time: Time, cards: &[u64]) -> Closed
+    requires { ⌜ HeldWithin held (time .ordinates) (now work) ⌝ }
+    requires { ⌜ Read (timeIs time) (now cards) ⌝ }
+    ensures { λ r. ⌜ ((name : List ℕ) → Closes (timeIs time) (blockOf name (now (cards .entry))) held (now (work .entry)) r (now (work .exit))) ⌝ }
 {
-    let formed = forming::form(work, held, nq, minutes, o, rain, units, flow);
-    if formed.refusal != 0 {
-        return refuse(formed.refusal, held);
+    let shape = shaping::shape_of(time, cards, held.depth);
+    if shape.refusal != 0 {
+        return refuse(shape.refusal, held);
     }
-    let next = formed.held;
-    let summary = summarize_last(work, next, nq);
+    let kind = shape.kind;
+    let next = making::make(work, held, time, cards, kind);
+    let summary = summarize_last(work, next, time.ordinates);
     if FLOW_LIMIT < summary.peak {
         return refuse(13, held);
     }
@@ -90,29 +94,31 @@ pub fn close_block(
     Closed {
         refusal: 0,
         held: next,
-        kind: formed.kind,
+        kind: shaping::number_of(kind),
         area,
         summary,
     }
 }
 
 // The record of block `k`, counted from 0, where there is room for it: that there is none is found out only at the end.
-fn write_record(
-    records: &mut [u8],
-    k: usize,
-    name: [u8; 6],
-    letters: usize,
-    kind: u8,
-    area: u32,
-    s: Summary,
-)
-    requires { ⌜ (k ≤ 199) × (letters ≤ 6) ⌝ }
-    ensures { λ _. ⌜ now (records .exit) ≡ recordPut k (recordBytes (take letters name) kind area (s .peak) (s .interval) (s .sum)) (now (records .entry)) ⌝ }
+fn write_record(records: &mut [u8], k: usize, name: Name, closed: Closed)
+    requires { ⌜ (k ≤ 199) × (name .letters ≤ 6) ⌝ }
+    ensures { λ _. ⌜ now (records .exit) ≡ recordPut k (recordTold (nameIs name) closed) (now (records .entry)) ⌝ }
 {
     if records.len() < 32 * k + 32 {
         return;
     }
-    results::record_at(records, k, &name[0..letters], kind, area, s);
+    let bytes = name.bytes;
+    let letters = name.letters;
+    let summary = closed.summary;
+    results::record_at(
+        records,
+        k,
+        &bytes[0..letters],
+        closed.kind,
+        closed.area,
+        summary,
+    );
 }
 
 // The hydrograph held last, in front of the ordinates, where there is room for it.
@@ -123,7 +129,7 @@ pub fn copy_last(ordinates: &mut [u64], work: &[u64], held: Stack, nq: usize)
     if ordinates.len() < nq {
         return;
     }
-    let p = 300 * (held.depth - 1);
+    let p = last_place(held);
     zeros::copy_words(ordinates, &work[p..p + nq]);
 }
 
@@ -139,54 +145,23 @@ fn copy_named(ordinates: &mut [u64], work: &[u64], held: Stack, nq: usize, named
     copy_last(ordinates, work, held, nq);
 }
 
-// A block finished: the refusal, 0 for none, and what is held.
-pub struct Finished {
-    pub refusal: u64,
-    pub held: Stack,
-}
-
-// The open block, before which `k` blocks were closed, closed; and, if it was not refused, its record and, where it is the one named, its ordinates written.
-pub fn finish_block(
-    work: &mut [u64],
-    held: Stack,
-    nq: usize,
-    minutes: u64,
-    o: Open,
-    rain: &[u64],
-    units: &[u64],
-    flow: &[u64],
+// What is told of block `k`, counted from 0, once it is closed: its record and, where it is the one named, its ordinates.
+pub fn write_result(
+    name: Name,
+    closed: Closed,
     k: usize,
     named: usize,
+    nq: usize,
+    work: &[u64],
     ordinates: &mut [u64],
     records: &mut [u8],
-) -> Finished
-    requires { ⌜ k ≤ 199 ⌝ }
-    requires { ⌜ Closable minutes nq o (now rain) (now units) (now flow) held (now work) ⌝ }
-    ensures { λ r. ⌜ Finishes (timeOf minutes nq) (blockOf o (now (rain .entry)) (now (units .entry)) (now (flow .entry))) held named k r (now (work .entry)) (now (work .exit)) (now (ordinates .entry)) (now (ordinates .exit)) (now (records .entry)) (now (records .exit)) ⌝ }
+)
+    requires { ⌜ (k ≤ 199) × (name .letters ≤ 6) ⌝ }
+    requires { ⌜ (1 ≤ closed .held .depth) × Fits (closed .held .depth) nq (length (now work)) ⌝ }
+    ensures copied { λ _. ⌜ now (ordinates .exit) ≡ copiedNamed named k nq (part (300 * (closed .held .depth - 1)) nq (now (work .entry))) (now (ordinates .entry)) ⌝ }
+    ensures written { λ _. ⌜ now (records .exit) ≡ recordPut k (recordTold (nameIs name) closed) (now (records .entry)) ⌝ }
 {
-    let closed = close_block(work, held, nq, minutes, o, rain, units, flow);
-    let refusal = closed.refusal;
-    let next = closed.held;
-    if refusal != 0 {
-        return Finished {
-            refusal,
-            held: next,
-        };
-    }
-    let summary = closed.summary;
-    let name = o.name;
-    write_record(
-        records,
-        k,
-        name,
-        o.letters,
-        closed.kind,
-        closed.area,
-        summary,
-    );
-    copy_named(ordinates, work, next, nq, named, k);
-    Finished {
-        refusal: 0,
-        held: next,
-    }
+    write_record(records, k, name, closed);
+    let held = closed.held;
+    copy_named(ordinates, work, held, nq, named, k);
 }

@@ -2,18 +2,18 @@
 // those held last, in the part of the work words from 300 times the place.
 ghost use mathlib.Core.Path.{_≡_};
 ghost use mathlib.Core.List.{_∷_};
-ghost use Prim.Native.Nat.{_+_, _-_, _*_, _≤_};
-ghost use lib.ListN.{length, take, drop};
+ghost use Prim.Native.Nat.{ℕ, _+_, _-_, _*_, _≤_, _<_, _^_};
+ghost use lib.ListN.{length, take, drop, getD};
 ghost use Rattle.sequences.specs.Bounds.{AllUpTo};
 ghost use Rattle.sequences.specs.Parts.{part, put};
-ghost use Rattle.meaning.specs.Water.{inflowOf, routedOf};
+ghost use Rattle.meaning.specs.Water.{inflowOf, plus, routedOf};
 ghost use Rattle.meaning.specs.Blocks.{total};
 ghost use Rattle.routing.specs.Soundness.{Reach};
 ghost use Rattle.runoff.specs.Storm.{Storm, stormRunoff};
 ghost use Rattle.stack.specs.View.{Fits, view, noneHeld, pushed, heldOf, routedHeld};
 ghost use Rattle.stack.specs.Joining.{joinedPair, joinedWords, joinedStack, joinedAllWords};
 ghost use Rattle.stack.specs.Limits.{Tops, Within, Added};
-use units::Depth;
+use excess::Loss;
 
 // How many are held, and the area of each in hundredths of a square mile, the first held first.
 pub struct Stack {
@@ -51,17 +51,16 @@ pub fn hold_basin(
     area: u32,
     units: &[u64],
     rains: &[u64],
-    initial: Depth,
-    uniform: Depth,
+    loss: Loss,
 ) -> Stack
     requires { ⌜ Fits (stack .depth + 1) nq (length (now work)) ⌝ }
     requires { ⌜ Storm (now units) (now rains) nq ⌝ }
     ensures { λ r. ⌜ r ≡ pushed area stack ⌝ }
-    ensures words { λ _. ⌜ now (work .exit) ≡ put (300 * stack .depth) nq (now (work .entry)) (stormRunoff (now (units .entry)) (now (rains .entry)) (initial .0) (uniform .0) nq) ⌝ }
-    ensures held { λ r. ⌜ view r nq (now (work .exit)) ≡ heldOf area (stormRunoff (now (units .entry)) (now (rains .entry)) (initial .0) (uniform .0) nq) ∷ view stack nq (now (work .entry)) ⌝ }
+    ensures words { λ _. ⌜ now (work .exit) ≡ put (300 * stack .depth) nq (now (work .entry)) (stormRunoff (now (units .entry)) (now (rains .entry)) loss nq) ⌝ }
+    ensures held { λ r. ⌜ view r nq (now (work .exit)) ≡ heldOf area (stormRunoff (now (units .entry)) (now (rains .entry)) loss nq) ∷ view stack nq (now (work .entry)) ⌝ }
 {
     let p = 300 * stack.depth;
-    runoff::runoff_into(&mut work[p..p + nq], units, rains, initial, uniform);
+    runoff::runoff_into(&mut work[p..p + nq], units, rains, loss);
     push(stack, area)
 }
 
@@ -78,6 +77,20 @@ pub fn hold_inflow(work: &mut [u64], stack: Stack, nq: usize, area: u32, values:
     push(stack, area)
 }
 
+// Adds the `n` words from `from` on to the first `n`; all others stay.
+fn add_from(s: &mut [u64], from: usize, n: usize)
+    requires { ⌜ (n ≤ from) × (from + n ≤ length (now s)) ⌝ }
+    requires { ⌜ ((k : ℕ) → k < n → getD (now s) k 0 + getD (now s) (from + k) 0 < 2 ^ 64) ⌝ }
+    ensures { λ _. ⌜ now (s .exit) ≡ plus (part from n (now (s .entry))) (now (s .entry)) ⌝ }
+{
+    let mut i = 0;
+    while i < n {
+        let j = from + i;
+        s[i] = s[j] + s[i];
+        i += 1;
+    }
+}
+
 // The last two held become one, their sum, in the place of the lower.
 fn join_pair(work: &mut [u64], stack: Stack, nq: usize) -> Stack
     requires { ⌜ (2 ≤ stack .depth) × Fits (stack .depth) nq (length (now work)) ⌝ }
@@ -88,7 +101,7 @@ fn join_pair(work: &mut [u64], stack: Stack, nq: usize) -> Stack
     let last = stack.depth - 1;
     let lower = stack.depth - 2;
     let p = 300 * lower;
-    confluence::add_from(&mut work[p..p + 600], 300, nq);
+    add_from(&mut work[p..p + 600], 300, nq);
     let mut areas = stack.areas;
     areas[lower] = areas[last] + areas[lower];
     Stack { areas, depth: last }

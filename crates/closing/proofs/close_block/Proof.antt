@@ -1,129 +1,107 @@
--- `closing::close_block` meets its contract: the block is formed, and each way out is a law of blocks formed.
-use Prim.Native.Nat.{ℕ, _≤_}
-use mathlib.Core.Path.{_≡_, sym, ap, subst, _∙_}
-use mathlib.Core.List.{List}
+-- `closing::close_block` meets its contract: a block that its shape refuses is not made; one that is made is the last held, and each way out is a law of blocks closed.
+use Prim.Native.Nat.{ℕ, _≤_, _<_}
+use mathlib.Core.Path.{_≡_, sym, ap, _∙_}
+use mathlib.Core.List.{List, []}
 use native.Mathlib.Omega.{arith}
-use lib.ListN.{length}
-use Rattle.sequences.specs.Bounds.{AllUpTo}
-use Rattle.blocks.specs.Open.{blockOf, timeOf}
-use Rattle.stack.specs.View.{Fits, view, length-held}
-use Rattle.results.specs.Summary.{summaryOf}
-use Rattle.forming.specs.Given.{units-few}
-use Rattle.closing.specs.Holding.{flow-within}
-use Rattle.closing.specs.Closing.{closes-by-shape, formed-last, formed-sound, formed-deep, closes-by-flow, closes-held}
 use borrow.Author.Needs.{needs}
+use lib.ListN.{length}
+use Rattle.meaning.specs.Water.{flowLimit}
+use Rattle.meaning.specs.Records.{UI}
+use Rattle.meaning.specs.Blocks.{kindNumber}
+use Rattle.meaning.specs.Results.{peakOf}
+use Rattle.meaning.specs.Run.{heldFor, shapeRefusal}
+use Rattle.blocks.specs.Meant.{timeIs}
+use Rattle.blocks.specs.Cards.{blockOf}
+use Rattle.blocks.specs.Kinds.{block-long}
+use Rattle.blocks.specs.Values.{values-few}
+use Rattle.stack.specs.View.{Fits, view}
+use Rattle.results.specs.declared.Summary.{Summary}
+use Rattle.results.specs.Summary.{summaryOf}
+use Rattle.closing.specs.LastHeld.{Last}
+use Rattle.closing.specs.ClosedBlock.{closes-by-shape, made-last, made-deep, made-within, closes-by-flow, closes-held}
 use Rattle.closing.proofs.close_block.Statement.{statement}
 use Rattle.closing.proofs.close_block.Tie as tie
 
-form-requires : tie.Need-form-requires
-form-requires c κs = search needs
+-- where the block is made, its shape is not refused,
+unrefused : (c : tie.After-make) (name : List ℕ) → let x = c .before .before .before .before .before .before .before .args in shapeRefusal (timeIs (x .time)) (blockOf name (x .cards .now)) (x .held .depth) ≡ 0
+unrefused c name = sym (c .before .before .before .before .shape-of .ensures name .number) ∙ c .before .before .if1 .left
 
-refuse-requires : tie.Need-refuse-requires
-refuse-requires c κs = search needs
+-- and it is the last held
+last : (c : tie.After-make) (name : List ℕ) → let x = c .before .before .before .before .before .before .before .args in
+    Last (c .make .result) (x .time .ordinates) (c .make .last .0) (heldFor (timeIs (x .time)) (blockOf name (x .cards .now)) (view (x .held) (x .time .ordinates) (x .work .now)))
+last c name = let x = c .before .before .before .before .before .before .before .args in made-last (timeIs (x .time)) (blockOf name (x .cards .now)) (x .held) (x .work .now) (unrefused c name) _ _ (c .make .ensures name)
 
-same-length : tie.Need-same-length
-same-length c = search needs
+deep : (c : tie.After-make) → c .make .result .depth ≤ 20
+deep c = let x = c .before .before .before .before .before .before .before .args in made-deep (timeIs (x .time)) (blockOf [] (x .cards .now)) (x .held) (x .work .now) (unrefused c []) _ _ (c .make .ensures [])
+
+-- its summary is that of its own hydrograph
+summed : (c : tie.After-summarize-last) (name : List ℕ) → let x = c .before .before .before .before .before .before .before .before .before .before .before .args in
+    c .summarize-last .result ≡ summaryOf (heldFor (timeIs (x .time)) (blockOf name (x .cards .now)) (view (x .held) (x .time .ordinates) (x .work .now)) .flow)
+summed c name = c .summarize-last .ensures ∙ ap summaryOf (last (c .before .before .before .before) name .flow)
 
 returns : tie.Need-returns
-returns c =
-    let q = c .before .before .before .before .before in
-    let s = q .before .before .before .before .before .before in
-    let x = s .args in
-    let w = x .work .now in
-    let τ = timeOf (x .minutes) (x .nq) in
-    let b = blockOf (x .o) (x .rain .now) (x .units .now) (x .flow .now) in
-    let f = q .form .result in
-    let w′ = q .form .last .0 in
-    let forms = q .form .ensures in
-    closes-by-shape τ b (x .held) w f w′ forms (c .before .if1 .taken) (c .refuse .ensures)
+returns c = λ name.
+    let x = c .before .before .before .before .before .before .args in
+    closes-by-shape (timeIs (x .time)) (blockOf name (x .cards .now)) (x .held) (x .work .now) _ (c .before .before .before .shape-of .ensures name .number) (c .before .if1 .taken) (c .refuse .ensures)
+
+make-requires : tie.Need-make-requires
+make-requires c κs =
+    let p = c .before .before .before .before .before .before .pre in
+    let shape = c .before .before .before .shape-of .ensures in
+    (p .0, (p .1, λ name. record { is = sym (shape name .kind); sound = sym (shape name .number) ∙ c .before .if1 .left }))
 
 summarize-last-requires : tie.Need-summarize-last-requires
 summarize-last-requires c κs =
-    let q = c .before .before .before .before .before .before in
-    let s = q .before .before .before .before .before .before in
+    let q = c .before .before .before in
+    let s = q .before .before .before .before .before .before .before in
     let x = s .args in
-    let w = x .work .now in
-    let τ = timeOf (x .minutes) (x .nq) in
-    let b = blockOf (x .o) (x .rain .now) (x .units .now) (x .flow .now) in
-    let f = q .form .result in
-    let w′ = q .form .last .0 in
-    let forms = q .form .ensures in
-    let none : f .refusal ≡ 0 = c .before .before .if1 .left in
-    let last = formed-last τ b (x .held) w f w′ forms none in
-    let v = view (x .held) (x .nq) w in
-    let deep : length v ≤ 20 = omega (arith, length-held (x .nq) (x .held .areas) (x .held .depth) w) in
-    let low = flow-within τ b v (s .pre .block) (s .pre .time) (units-few (x .o) (x .nq) (x .rain .now) (x .units .now) (x .flow .now) (s .pre .block) (s .pre .kept)) deep (s .pre .held .flows) (formed-sound τ b (x .held) w f w′ forms none) in
-    let long : length w′ ≡ length w = q .form .kept .0 in
-    let fits : Fits (f .held .depth) (x .nq) (length w′) = record { deep = formed-deep τ b (x .held) w f w′ forms none; ordinates = s .pre .held .fits .ordinates; enough = omega arith } in
-    ((last .some, fits), subst (λ (l : List ℕ). AllUpTo 18_000_000_000_000_000 l) (sym (last .flow)) low)
-
-refuse-requires-2 : tie.Need-refuse-requires-2
-refuse-requires-2 c κs = search needs
-
-same-length-2 : tie.Need-same-length-2
-same-length-2 c = search needs
+    let b = blockOf [] (x .cards .now) in
+    let read = s .pre .1 in
+    let few = values-few UI [] (x .cards .now) (omega arith) (read .words .long) in
+    let up = made-within (timeIs (x .time)) b (x .held) (x .work .now) (unrefused q []) _ _ (q .make .ensures []) (read .cards) (block-long [] (x .cards .now)) few (read .time) (s .pre .0 .flows) in
+    let long : length (q .make .last .0) ≡ length (x .work .now) = q .make .kept .0 in
+    let fits : Fits (q .make .result .depth) (x .time .ordinates) (length (q .make .last .0)) = record { deep = deep q; ordinates = s .pre .0 .fits .ordinates; enough = omega arith } in
+    ((omega (arith, last q [] .some), fits), up)
 
 returns-2 : tie.Need-returns-2
-returns-2 c =
-    let q = c .before .before .before .before .before .before .before .before .before .before in
-    let s = q .before .before .before .before .before .before in
-    let x = s .args in
-    let w = x .work .now in
-    let τ = timeOf (x .minutes) (x .nq) in
-    let b = blockOf (x .o) (x .rain .now) (x .units .now) (x .flow .now) in
-    let f = q .form .result in
-    let w′ = q .form .last .0 in
-    let forms = q .form .ensures in
-    let none : f .refusal ≡ 0 = c .before .before .before .before .before .before .if1 .left in
-    let last = formed-last τ b (x .held) w f w′ forms none in
-    let e = c .before .before .before .summarize-last .ensures ∙ ap summaryOf (last .flow) in
-    closes-by-flow τ b (x .held) w f w′ forms none (rw e at (c .before .if2 .taken)) (c .refuse2 .ensures)
+returns-2 c = λ name.
+    let q = c .before .before .before in
+    let x = q .before .before .before .before .before .before .before .before .before .before .before .args in
+    let τ = timeIs (x .time) in
+    let b = blockOf name (x .cards .now) in
+    let high : flowLimit < peakOf (heldFor τ b (view (x .held) (x .time .ordinates) (x .work .now)) .flow) = omega (arith, c .before .if2 .taken, ap (λ (s : Summary). s .peak) (summed q name)) in
+    let m = q .before .before .before .before in
+    closes-by-flow τ b (x .held) (x .work .now) (unrefused m name) _ _ (m .make .ensures name) high (c .refuse2 .ensures)
 
 last-area-requires : tie.Need-last-area-requires
-last-area-requires c κs =
-    let q = c .before .before .before .before .before .before .before .before .before in
-    let s = q .before .before .before .before .before .before in
-    let x = s .args in
-    let w = x .work .now in
-    let τ = timeOf (x .minutes) (x .nq) in
-    let b = blockOf (x .o) (x .rain .now) (x .units .now) (x .flow .now) in
-    let f = q .form .result in
-    let w′ = q .form .last .0 in
-    let forms = q .form .ensures in
-    let none : f .refusal ≡ 0 = c .before .before .before .before .before .if1 .left in
-    (formed-last τ b (x .held) w f w′ forms none .some, formed-deep τ b (x .held) w f w′ forms none)
-
-same-length-3 : tie.Need-same-length-3
-same-length-3 c = search needs
+last-area-requires c κs = let q = c .before .before .before .before .before .before in omega (arith, last q [] .some, deep q)
 
 returns-3 : tie.Need-returns-3
-returns-3 c =
-    let q = c .before .before .before .before .before .before .before .before .before .before in
-    let s = q .before .before .before .before .before .before in
+returns-3 c = λ name.
+    let q = c .before .before .before .before in
+    let s = q .before .before .before .before .before .before .before .before .before .before .before in
     let x = s .args in
-    let w = x .work .now in
-    let τ = timeOf (x .minutes) (x .nq) in
-    let b = blockOf (x .o) (x .rain .now) (x .units .now) (x .flow .now) in
-    let f = q .form .result in
-    let w′ = q .form .last .0 in
-    let forms = q .form .ensures in
-    let none : f .refusal ≡ 0 = c .before .before .before .before .before .before .if1 .left in
-    let last = formed-last τ b (x .held) w f w′ forms none in
-    let e = c .before .before .before .summarize-last .ensures ∙ ap summaryOf (last .flow) in
-    closes-held τ b (x .held) w f w′ forms none (s .pre .block) (s .pre .held .flows) (c .last-area .ensures ∙ last .area) e (omega arith)
+    let τ = timeIs (x .time) in
+    let b = blockOf name (x .cards .now) in
+    let m = q .before .before .before .before in
+    let low : peakOf (heldFor τ b (view (x .held) (x .time .ordinates) (x .work .now)) .flow) ≤ flowLimit = omega (arith, c .before .before .if2 .left, ap (λ (s : Summary). s .peak) (summed q name)) in
+    let kind = c .number-of .ensures ∙ ap kindNumber (m .before .before .before .before .shape-of .ensures name .kind) in
+    closes-held τ b (x .held) (x .work .now) (unrefused m name) _ _ (m .make .ensures name) (s .pre .1 .cards) (s .pre .0 .flows) kind
+    (c .before .last-area .ensures ∙ last m name .area) (summed q name) low
 
 pub close-block-spec : {M : Type 1} → statement M
 close-block-spec =
     tie.close
     (tie.spec
-    form-requires
-    refuse-requires
-    same-length
+    (λ c κs. search needs)
+    (λ c κs. search needs)
     returns
+    make-requires
     summarize-last-requires
-    refuse-requires-2
-    same-length-2
+    (λ c κs. search needs)
+    (λ c. search needs)
     returns-2
     last-area-requires
-    same-length-3
+    (λ c κs. search needs)
+    (λ c. search needs)
     returns-3)

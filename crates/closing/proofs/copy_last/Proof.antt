@@ -1,67 +1,43 @@
 -- `closing::copy_last` meets its contract: without room the ordinates stay, and with room the words of the last place come in front.
-use Prim.Native.Nat.{_+_, _-_, _*_}
+use Prim.Native.Nat.{ℕ, _<_, _≤_}
 use mathlib.Core.Path.{_≡_, refl, _∙_}
+use mathlib.Core.List.{List, _++_}
 use native.Mathlib.Omega.{arith}
-use borrow.Author.Tests.{le-leb, lt-leb}
-use lib.ListN.{length}
-use Rattle.sequences.specs.Choices.{taken, passed}
-use Rattle.sequences.specs.Parts.{length-part}
 use borrow.Author.Needs.{needs}
+use borrow.Author.Tests.{le-leb, lt-leb}
+use lib.ListN.{length, drop}
+use Rattle.sequences.specs.Choices.{taken, passed}
+use Rattle.closing.specs.LastHeld.{lent-by, length-last}
 use Rattle.closing.proofs.copy_last.Statement.{statement}
 use Rattle.closing.proofs.copy_last.Tie as tie
 
 returns : tie.Need-returns
 returns c =
     let x = c .before .before .before .args in
-    passed _ (lt-leb (x .nq) (length (x .ordinates .now)) (c .if1 .taken)) refl
-
-sub-p : tie.Need-sub-p
-sub-p c = search needs
-
-mul-p : tie.Need-mul-p
-mul-p c = search needs
-
-add-copy-words : tie.Need-add-copy-words
-add-copy-words c = search needs
-
-mul-copy-words : tie.Need-mul-copy-words
-mul-copy-words c = search needs
-
-sub-copy-words : tie.Need-sub-copy-words
-sub-copy-words c = search needs
-
-part-copy-words-start : tie.Need-part-copy-words-start
-part-copy-words-start c = search needs
-
-part-copy-words-end : tie.Need-part-copy-words-end
-part-copy-words-end c = search needs
-
-copy-words-requires : tie.Need-copy-words-requires
-copy-words-requires c κs = search needs
-
-same-length : tie.Need-same-length
-same-length c = search needs
+    let none : length (x .ordinates .now) < x .nq = omega (arith, c .if1 .taken) in
+    passed _ (lt-leb _ _ none) refl
 
 returns-2 : tie.Need-returns-2
 returns-2 c =
-    let x = c .before .before .before .before .before .before .before .before .before .args in
-    let p = 300 * (x .held .depth - 1) in
-    let lent : p + x .nq - p ≡ x .nq = omega arith in
-    taken _ (le-leb (x .nq) (length (x .ordinates .now)) (c .before .before .before .before .before .before .if1 .left))
-    (c .before .before .copy-words .ensures ∙ rw (lent, length-part p (x .nq) (x .work .now) (omega arith)))
+    let s = c .before .before .before .before .before .before .before .before .before in
+    let x = s .args in
+    let w = x .work .now in
+    let room : x .nq ≤ length (x .ordinates .now) = omega (arith, c .before .before .before .before .before .before .if1 .left) in
+    let front : List ℕ → List ℕ = λ (q : List ℕ). q ++ drop (length q) (x .ordinates .now) in
+    let copied = lent-by (x .held) (x .nq) w front _ (c .before .before .copy-words .ensures) (omega (arith, c .before .before .before .before .before .last-place .ensures)) in
+    taken _ (le-leb _ _ room) (copied ∙ rw (length-last (x .held) (x .nq) w (s .pre)))
 
 pub copy-last-spec : {M : Type 1} → statement M
 copy-last-spec =
     tie.close
     (tie.spec
     returns
-    sub-p
-    mul-p
-    add-copy-words
-    mul-copy-words
-    sub-copy-words
-    part-copy-words-start
-    part-copy-words-end
-    copy-words-requires
-    same-length
+    (λ c κs. search needs)
+    (λ c. search needs)
+    (λ c. search needs)
+    (λ c. search needs)
+    (λ c. search needs)
+    (λ c. search needs)
+    (λ c κs. search needs)
+    (λ c. search needs)
     returns-2)

@@ -1,0 +1,37 @@
+-- What a block of each kind that was read and is not refused gives to the functions of water.
+use Prim.Native.Nat.{ℕ, _+_, _≤_}
+use mathlib.Core.Path.{_≡_, refl, ap, _∙_}
+use mathlib.Core.List.{List}
+use native.Mathlib.Omega.{arith}
+use lib.ListN.{length}
+use Rattle.meaning.specs.Words.{if_then_else_}
+use Rattle.meaning.specs.Records.{PI, UI, HC, table}
+use Rattle.meaning.specs.Blocks.{Time, Block, Kind, Confluence, kindOf, takesBy, combined, rainValues, unitOrdinates}
+use Rattle.limits.specs.Within.{TimeWithin}
+use Rattle.blocks.specs.Kinds.{kind-must}
+use Rattle.excess.specs.declared.Loss.{Loss}
+use Rattle.runoff.specs.Storm.{Storm}
+use Rattle.stack.specs.View.{Fits}
+use Rattle.stack.specs.Limits.{Added}
+use Rattle.shaping.specs.Limits.{CardsWithin}
+use Rattle.shaping.specs.Shapes.{Shaped, shaped-passes}
+
+pub storm-read : (τ : Time) (b : Block) → TimeWithin τ → CardsWithin b → length (unitOrdinates b) ≤ 150 → Storm (unitOrdinates b) (rainValues b) (τ .ordinates)
+storm-read τ b time cards few = record { few = few; unitsUp = cards UI .high; rainsUp = cards PI .high; intervalsUp = time .few-ordinates }
+
+-- a block that takes none finds room for one more
+pub room-for-one : {k : Kind} (τ : Time) (b : Block) (d words : ℕ) → takesBy k b ≡ 0 → Shaped k τ b d → Fits d (τ .ordinates) words → Fits (d + 1) (τ .ordinates) words
+room-for-one τ b d words none s f = let p = shaped-passes τ b d s in record { deep = omega (arith, p .room, none); ordinates = f .ordinates; enough = f .enough }
+
+pub joins-read : (τ : Time) (b : Block) (d : ℕ) → CardsWithin b → length (b .cards) ≡ length table → Shaped Confluence τ b d → Added (combined b) d
+unfolding if_then_else_
+joins-read τ b d cards long s =
+    let given = kind-must b Confluence HC refl (λ e. omega arith) (omega arith) (s .is) in
+    record { some = cards HC .low given 0 (omega arith); few = cards HC .high 0; held = shaped-passes τ b d s .enough }
+
+-- a loss is its two depths
+pub loss-is : (l : Loss) (initial uniform : ℕ) → l .initial .0 ≡ initial → l .uniform .0 ≡ uniform
+    → l ≡ record { initial = record { 0 = initial }; uniform = record { 0 = uniform } }
+loss-is l initial uniform p q =
+    ap (λ (x : ℕ). record { initial = record { 0 = x }; uniform = l .uniform }) p
+    ∙ ap (λ (y : ℕ). record { initial = record { 0 = initial }; uniform = record { 0 = y } }) q

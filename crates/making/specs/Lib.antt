@@ -1,0 +1,4 @@
+-- What making a block's hydrograph asks, and what it leaves.
+pub mod Made
+pub mod Kinds
+pub mod Unique

@@ -1,0 +1,47 @@
+-- A block's hydrograph made and held, before its flows are looked at.
+--     HeldWithin           what is asked of what is held before
+--     stackBy, wordsBy     what the stack and the work words are then, for each kind
+--     Makes                the outcome, with makes-by: how it comes about
+use Prim.Native.Nat.{ℕ, _-_, _*_, _≤_}
+use mathlib.Core.Path.{_≡_}
+use mathlib.Core.List.{List}
+use lib.ListN.{length}
+use Rattle.sequences.specs.Parts.{part, put}
+use Rattle.meaning.specs.Water.{inflowOf, routedOf}
+use Rattle.meaning.specs.Blocks.{Time, Block, Kind, NoKind, Basin, Inflow, Confluence, Reach, kindOf, total, basinArea, combined, inflowValues, reachSteps, reachK, reachX}
+use Rattle.meaning.specs.Run.{heldAfter}
+use Rattle.stack.specs.declared.Stack.{Stack}
+use Rattle.stack.specs.View.{Fits, view, pushed}
+use Rattle.stack.specs.Joining.{joinedStack, joinedAllWords}
+use Rattle.stack.specs.Limits.{Within}
+use Rattle.stack.specs.Kinds.{blockRunoff}
+
+-- all that is held is within its limits; 199 blocks of the largest area may have been closed
+pub record HeldWithin (s : Stack) (nq : ℕ) (w : List ℕ) : Type 0 where
+  pub fits : Fits (s .depth) nq (length w)
+  pub flows : Within (view s nq w)
+  pub areas : total (view s nq w) .area ≤ 198_999_801
+
+abbrev pub stackBy : Kind → Block → Stack → Stack
+stackBy NoKind b s = s
+stackBy Basin b s = pushed (basinArea b) s
+stackBy Inflow b s = pushed (basinArea b) s
+stackBy Confluence b s = joinedStack (combined b - 1) s
+stackBy Reach b s = s
+
+abbrev pub wordsBy : Kind → Time → Block → Stack → List ℕ → List ℕ
+wordsBy NoKind τ b s w = w
+wordsBy Basin τ b s w = put (300 * s .depth) (τ .ordinates) w (blockRunoff τ b)
+wordsBy Inflow τ b s w = put (300 * s .depth) (τ .ordinates) w (inflowOf (inflowValues b) (τ .ordinates))
+wordsBy Confluence τ b s w = joinedAllWords (combined b - 1) (s .depth) (τ .ordinates) w
+wordsBy Reach τ b s w =
+    put (300 * (s .depth - 1)) (τ .ordinates) w (routedOf (reachSteps b) (τ .minutes) (reachK b) (reachX b) (part (300 * (s .depth - 1)) (τ .ordinates) w))
+
+pub record Makes (τ : Time) (b : Block) (s : Stack) (w : List ℕ) (next : Stack) (w′ : List ℕ) : Type 0 where
+  pub stack : next ≡ stackBy (kindOf b) b s
+  pub words : w′ ≡ wordsBy (kindOf b) τ b s w
+  pub held : view next (τ .ordinates) w′ ≡ heldAfter τ b (view s (τ .ordinates) w)
+
+pub makes-by : (τ : Time) (b : Block) (s : Stack) (w : List ℕ) {k : Kind} {next : Stack} {w′ : List ℕ} → kindOf b ≡ k → next ≡ stackBy k b s → w′ ≡ wordsBy k τ b s w
+    → view next (τ .ordinates) w′ ≡ heldAfter τ b (view s (τ .ordinates) w) → Makes τ b s w next w′
+makes-by τ b s w e p q v = record { stack = rw e p; words = rw e q; held = v }

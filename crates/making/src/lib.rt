@@ -1,0 +1,108 @@
+// The hydrograph of a block that 9 to 12 do not refuse, made in the work words and held: a function for each kind.
+ghost use mathlib.Core.Path.{_≡_};
+ghost use mathlib.Core.List.{List, []};
+ghost use Prim.Native.Nat.{ℕ};
+ghost use Rattle.meaning.specs.Blocks.{Basin, Inflow, Confluence, Reach, basinArea};
+ghost use Rattle.blocks.specs.Meant.{timeIs};
+ghost use Rattle.blocks.specs.Cards.{blockOf, Readable};
+ghost use Rattle.blocks.specs.Kinds.{kindMeant};
+ghost use Rattle.stack.specs.Kinds.{blockLoss};
+ghost use Rattle.shaping.specs.Limits.{CardsWithin, Read};
+ghost use Rattle.shaping.specs.Shapes.{Shaped};
+ghost use Rattle.making.specs.Made.{HeldWithin, Makes};
+use blocks::Kind;
+use blocks::Time;
+use excess::Loss;
+use stack::Stack;
+
+// The area of a basin or an inflow; a block without BA has none.
+fn area_of(cards: &[u64]) -> u32
+    requires { ⌜ Readable (now cards) × CardsWithin (blockOf [] (now cards)) ⌝ }
+    ensures { λ r. ⌜ ((name : List ℕ) → r ≡ basinArea (blockOf name (now (cards .entry)))) ⌝ }
+{
+    blocks::value_at(cards, records::BA, 0) as u32
+}
+
+// What a basin loses of its rain.
+fn loss_of(time: Time, cards: &[u64]) -> Loss
+    requires { ⌜ Read (timeIs time) (now cards) ⌝ }
+    ensures { λ r. ⌜ ((name : List ℕ) → r ≡ blockLoss (timeIs time) (blockOf name (now (cards .entry)))) ⌝ }
+{
+    let initial = units::depth_of(blocks::value_at(cards, records::LU, 0));
+    let uniform = units::uniform_loss(time.minutes, blocks::value_at(cards, records::LU, 1));
+    Loss { initial, uniform }
+}
+
+// A basin: the runoff of its storm.
+fn make_basin(work: &mut [u64], held: Stack, time: Time, cards: &[u64]) -> Stack
+    requires { ⌜ HeldWithin held (time .ordinates) (now work) ⌝ }
+    requires { ⌜ Read (timeIs time) (now cards) ⌝ }
+    requires { ⌜ ((name : List ℕ) → Shaped Basin (timeIs time) (blockOf name (now cards)) (held .depth)) ⌝ }
+    ensures { λ r. ⌜ ((name : List ℕ) → Makes (timeIs time) (blockOf name (now (cards .entry))) held (now (work .entry)) r (now (work .exit))) ⌝ }
+{
+    let area = area_of(cards);
+    let loss = loss_of(time, cards);
+    let units = blocks::values(cards, records::UI);
+    let rains = blocks::values(cards, records::PI);
+    stack::hold_basin(work, held, time.ordinates, area, units, rains, loss)
+}
+
+// An inflow: its flows as listed.
+fn make_inflow(work: &mut [u64], held: Stack, time: Time, cards: &[u64]) -> Stack
+    requires { ⌜ HeldWithin held (time .ordinates) (now work) ⌝ }
+    requires { ⌜ Read (timeIs time) (now cards) ⌝ }
+    requires { ⌜ ((name : List ℕ) → Shaped Inflow (timeIs time) (blockOf name (now cards)) (held .depth)) ⌝ }
+    ensures { λ r. ⌜ ((name : List ℕ) → Makes (timeIs time) (blockOf name (now (cards .entry))) held (now (work .entry)) r (now (work .exit))) ⌝ }
+{
+    let area = area_of(cards);
+    let values = blocks::values(cards, records::QI);
+    stack::hold_inflow(work, held, time.ordinates, area, values)
+}
+
+// A confluence: the last held become one.
+fn make_confluence(work: &mut [u64], held: Stack, time: Time, cards: &[u64]) -> Stack
+    requires { ⌜ HeldWithin held (time .ordinates) (now work) ⌝ }
+    requires { ⌜ Read (timeIs time) (now cards) ⌝ }
+    requires { ⌜ ((name : List ℕ) → Shaped Confluence (timeIs time) (blockOf name (now cards)) (held .depth)) ⌝ }
+    ensures { λ r. ⌜ ((name : List ℕ) → Makes (timeIs time) (blockOf name (now (cards .entry))) held (now (work .entry)) r (now (work .exit))) ⌝ }
+{
+    let joins = blocks::value_at(cards, records::HC, 0) as usize;
+    stack::join_last(work, held, time.ordinates, joins)
+}
+
+// A reach: the last held is routed.
+fn make_reach(work: &mut [u64], held: Stack, time: Time, cards: &[u64]) -> Stack
+    requires { ⌜ HeldWithin held (time .ordinates) (now work) ⌝ }
+    requires { ⌜ Read (timeIs time) (now cards) ⌝ }
+    requires { ⌜ ((name : List ℕ) → Shaped Reach (timeIs time) (blockOf name (now cards)) (held .depth)) ⌝ }
+    ensures { λ r. ⌜ ((name : List ℕ) → Makes (timeIs time) (blockOf name (now (cards .entry))) held (now (work .entry)) r (now (work .exit))) ⌝ }
+{
+    let steps = blocks::value_at(cards, records::RM, 0);
+    let travel = blocks::value_at(cards, records::RM, 1);
+    let weight = blocks::value_at(cards, records::RM, 2);
+    stack::route_last(
+        work,
+        held,
+        time.ordinates,
+        steps,
+        time.minutes,
+        travel,
+        weight,
+    );
+    held
+}
+
+pub fn make(work: &mut [u64], held: Stack, time: Time, cards: &[u64], kind: Kind) -> Stack
+    requires { ⌜ HeldWithin held (time .ordinates) (now work) ⌝ }
+    requires { ⌜ Read (timeIs time) (now cards) ⌝ }
+    requires { ⌜ ((name : List ℕ) → Shaped (kindMeant kind) (timeIs time) (blockOf name (now cards)) (held .depth)) ⌝ }
+    ensures { λ r. ⌜ ((name : List ℕ) → Makes (timeIs time) (blockOf name (now (cards .entry))) held (now (work .entry)) r (now (work .exit))) ⌝ }
+{
+    match kind {
+        Kind::NoKind => held,
+        Kind::Basin => make_basin(work, held, time, cards),
+        Kind::Inflow => make_inflow(work, held, time, cards),
+        Kind::Confluence => make_confluence(work, held, time, cards),
+        Kind::Reach => make_reach(work, held, time, cards),
+    }
+}

@@ -1,0 +1,117 @@
+-- Refusals 9 to 12 of a block that closes.
+--     refusalBy       by the numbers that they look at
+--     ShapeIs         the shape of a block, with shape-refused and shape-sound: how it comes about
+--     Shaped          a block of a kind that none of them refuses, with what that says of how many are held, and of a reach
+use Prim.Native.Nat.{ℕ, zero, suc, _+_, _-_, _≤_, _<_}
+use mathlib.Core.Path.{_≡_, refl, sym, ap, _∙_}
+use mathlib.Core.Bool.{Bool, true, false}
+use native.Mathlib.Omega.{arith}
+use borrow.Author.Tests.{ltb-false, leb-false}
+use lib.ListN.{length}
+use Rattle.meaning.specs.Words.{_=?_, _≤?_, _<?_, if_then_else_, met, first}
+use Rattle.meaning.specs.Water.{coefA, coefB, coefC}
+use Rattle.meaning.specs.Records.{RM, table}
+use Rattle.meaning.specs.Blocks as blocks
+use Rattle.meaning.specs.Blocks.{Time, Block, NoKind, Reach, kindNumber, kindOf, takesBy, takes, brokenBy, broken, reachSteps, reachK, reachX}
+use Rattle.meaning.specs.Run.{shapeRefusal, depthAfter}
+use Rattle.limits.specs.Within.{TimeWithin}
+use Rattle.blocks.specs.Kinds.{kindMeant, kind-must}
+use Rattle.blocks.specs.declared.Kind.{Kind}
+use Rattle.routing.specs.Soundness as routing
+use Rattle.shaping.specs.Limits.{CardsWithin, reach-small}
+use Rattle.shaping.specs.declared.Shape.{Shape}
+
+abbrev pub refusalBy : (number taken held : ℕ) → Bool → ℕ
+refusalBy number taken held isBroken =
+    first (met (number =? 0) 9) (first (met (held <? taken) 10) (first (met (20 ≤? (held - taken)) 11) (met isBroken 12)))
+
+-- by the kind alone
+pub takes-by : (b : Block) {k : blocks.Kind} → kindOf b ≡ k → takes b ≡ takesBy k b
+unfolding takes
+takes-by b e = rw e
+
+pub broken-by : (τ : Time) (b : Block) {k : blocks.Kind} → kindOf b ≡ k → broken τ b ≡ brokenBy k τ b
+unfolding broken
+broken-by τ b e = rw e
+
+pub shape-by : (τ : Time) (b : Block) (held : ℕ) {k : blocks.Kind} → kindOf b ≡ k → shapeRefusal τ b held ≡ refusalBy (kindNumber k) (takesBy k b) held (brokenBy k τ b)
+unfolding shapeRefusal
+shape-by τ b held e = rw (takes-by b e, broken-by τ b e, e)
+
+-- THE SHAPE. A refusal leaves as many held as there were.
+abbrev pub afterShape : (refusal : ℕ) → Block → ℕ → ℕ
+afterShape zero b held = depthAfter b held
+afterShape (suc n) b held = held
+
+pub record ShapeIs (τ : Time) (b : Block) (held : ℕ) (r : Shape) : Type 0 where
+  pub number : r .refusal ≡ shapeRefusal τ b held
+  pub kind : kindMeant (r .kind) ≡ kindOf b
+  pub after : r .after ≡ afterShape (r .refusal) b held
+
+kept-after : (n : ℕ) (b : Block) (held : ℕ) → (n ≡ 0 → ⊥) → held ≡ afterShape n b held
+kept-after zero b held some = absurd (some refl)
+kept-after (suc n) b held some = refl
+
+module _ (τ : Time) (b : Block) (held : ℕ) (kind : Kind) (e : kindMeant kind ≡ kindOf b) where
+  pub shape-refused : (n : ℕ) → n ≡ shapeRefusal τ b held → (n ≡ 0 → ⊥) → ShapeIs τ b held (record { refusal = n; kind = kind; after = held })
+  shape-refused n h some = record { number = h; kind = e; after = kept-after n b held some }
+
+  pub shape-sound : (after : ℕ) → 0 ≡ shapeRefusal τ b held → after ≡ held - takesBy (kindMeant kind) b + 1
+      → ShapeIs τ b held (record { refusal = 0; kind = kind; after = after })
+  shape-sound after h a = record { number = h; kind = e; after = a ∙ ap (λ (n : ℕ). held - n + 1) (sym (takes-by b (sym e))) }
+
+-- NOT REFUSED
+first-none : (m n : ℕ) → first m n ≡ 0 → (m ≡ 0) × (n ≡ 0)
+first-none zero n e = (refl, e)
+first-none (suc m) n e = absurd (omega arith)
+
+met-none : (t : Bool) (n : ℕ) → met t (suc n) ≡ 0 → t ≡ false
+met-none true n e = absurd (omega arith)
+met-none false n e = refl
+
+pub record Passes (taken held : ℕ) (isBroken : Bool) : Type 0 where
+  pub enough : taken ≤ held
+  pub room : held - taken < 20
+  pub whole : isBroken ≡ false
+
+pub passes : (number taken held : ℕ) (isBroken : Bool) → refusalBy number taken held isBroken ≡ 0 → Passes taken held isBroken
+passes number taken held isBroken e =
+    let f = first-none (met (held <? taken) 10) _ (first-none (met (number =? 0) 9) _ e .1) in
+    let g = first-none (met (20 ≤? (held - taken)) 11) _ (f .1) in
+    record {
+      enough = ltb-false held taken (met-none (held <? taken) 9 (f .0));
+      room = leb-false 20 (held - taken) (met-none (20 ≤? (held - taken)) 10 (g .0));
+      whole = met-none isBroken 11 (g .1);
+    }
+
+pub record Shaped (k : blocks.Kind) (τ : Time) (b : Block) (held : ℕ) : Type 0 where
+  pub is : kindOf b ≡ k
+  pub sound : shapeRefusal τ b held ≡ 0
+
+module _ {k : blocks.Kind} (τ : Time) (b : Block) (held : ℕ) (s : Shaped k τ b held) where
+  pub shaped-passes : Passes (takesBy k b) held (brokenBy k τ b)
+  shaped-passes = passes (kindNumber k) (takesBy k b) held (brokenBy k τ b) (sym (shape-by τ b held (s .is)) ∙ s .sound)
+
+-- a block without a kind is refused
+pub none-refused : (τ : Time) (b : Block) (held : ℕ) → Shaped NoKind τ b held → ⊥
+none-refused τ b held s = let e : _≡_ {A = ℕ} 9 0 = sym (shape-by τ b held (s .is)) ∙ s .sound in omega arith
+
+-- a reach that 12 does not refuse
+pub reach-shaped : (τ : Time) (b : Block) (held : ℕ) → Shaped Reach τ b held → TimeWithin τ → CardsWithin b → length (b .cards) ≡ length table
+    → routing.Reach (reachSteps b) (τ .minutes) (reachK b) (reachX b)
+unfolding if_then_else_
+reach-shaped τ b held s time cards long =
+    let given = kind-must b Reach RM refl (λ e. omega arith) (omega arith) (s .is) in
+    let small = reach-small τ b time cards in
+    let order = routing.routable (coefA (reachSteps b) (τ .minutes)) (coefB (reachK b) (reachX b)) (coefC (reachK b) (reachX b)) (shaped-passes τ b held s .whole) in
+    record {
+      steps = cards RM .low given 0 (omega arith);
+      stepsUp = small .steps;
+      minutes = time .some-minutes;
+      minutesUp = small .minutes;
+      travel = cards RM .low given 1 (omega arith);
+      travelUp = small .travel;
+      weight = small .weight;
+      low = order .0;
+      high = order .1;
+    }

@@ -1,0 +1,114 @@
+// What the lines alone decide of a block that closes, before any flow is looked at: its kind, the refusals 9 to 12, and how many are held after it.
+ghost use mathlib.Core.Path.{_≡_};
+ghost use mathlib.Core.List.{List};
+ghost use Prim.Native.Nat.{ℕ};
+ghost use Rattle.meaning.specs.Blocks.{Reach, kindNumber, takesBy, brokenBy};
+ghost use Rattle.blocks.specs.Meant.{timeIs};
+ghost use Rattle.blocks.specs.Cards.{blockOf, Readable};
+ghost use Rattle.blocks.specs.Kinds.{kindMeant};
+ghost use Rattle.shaping.specs.Limits.{Read};
+ghost use Rattle.shaping.specs.Shapes.{refusalBy, ShapeIs};
+use blocks::Kind;
+use blocks::Time;
+
+const MOST_HELD: usize = 20;
+
+// The refusal by 9 to 12, 0 for none; the kind; and how many are held then, as many as before where the block is refused.
+pub struct Shape {
+    pub refusal: u64,
+    pub kind: Kind,
+    pub after: usize,
+}
+
+pub fn number_of(kind: Kind) -> u8
+    ensures { λ r. ⌜ r ≡ kindNumber (kindMeant kind) ⌝ }
+{
+    match kind {
+        Kind::NoKind => 0,
+        Kind::Basin => 1,
+        Kind::Inflow => 2,
+        Kind::Confluence => 3,
+        Kind::Reach => 4,
+    }
+}
+
+// How many of those held last a block of the kind takes.
+fn taken_by(kind: Kind, cards: &[u64]) -> usize
+    requires { ⌜ Readable (now cards) ⌝ }
+    ensures { λ r. ⌜ ((name : List ℕ) → r ≡ takesBy (kindMeant kind) (blockOf name (now (cards .entry)))) ⌝ }
+{
+    match kind {
+        Kind::NoKind => 0,
+        Kind::Basin => 0,
+        Kind::Inflow => 0,
+        Kind::Confluence => blocks::value_at(cards, records::HC, 0) as usize,
+        Kind::Reach => 1,
+    }
+}
+
+// Whether a reach has its coefficients out of order.
+fn is_out_of_order(time: Time, cards: &[u64]) -> bool
+    requires { ⌜ Read (timeIs time) (now cards) ⌝ }
+    ensures { λ r. ⌜ ((name : List ℕ) → r ≡ brokenBy Reach (timeIs time) (blockOf name (now (cards .entry)))) ⌝ }
+{
+    let steps = blocks::value_at(cards, records::RM, 0);
+    let travel = blocks::value_at(cards, records::RM, 1);
+    let weight = blocks::value_at(cards, records::RM, 2);
+    routing::is_unroutable(steps, time.minutes, travel, weight)
+}
+
+// Whether a block of the kind has values that do not go together.
+fn is_broken(kind: Kind, time: Time, cards: &[u64]) -> bool
+    requires { ⌜ Read (timeIs time) (now cards) ⌝ }
+    ensures { λ r. ⌜ ((name : List ℕ) → r ≡ brokenBy (kindMeant kind) (timeIs time) (blockOf name (now (cards .entry)))) ⌝ }
+{
+    match kind {
+        Kind::NoKind => false,
+        Kind::Basin => false,
+        Kind::Inflow => false,
+        Kind::Confluence => false,
+        Kind::Reach => is_out_of_order(time, cards),
+    }
+}
+
+// The refusals in their order: no kind (9), too few held (10), no room for one more (11), values that do not go together (12).
+fn refusal_by(number: u8, taken: usize, held: usize, broken: bool) -> u64
+    ensures { λ r. ⌜ r ≡ refusalBy number taken held broken ⌝ }
+{
+    if number == 0 {
+        return 9;
+    }
+    if held < taken {
+        return 10;
+    }
+    if MOST_HELD <= held - taken {
+        return 11;
+    }
+    if broken {
+        return 12;
+    }
+    0
+}
+
+// The shape of the open block where so many are held.
+pub fn shape_of(time: Time, cards: &[u64], held: usize) -> Shape
+    requires { ⌜ Read (timeIs time) (now cards) ⌝ }
+    ensures { λ r. ⌜ ((name : List ℕ) → ShapeIs (timeIs time) (blockOf name (now (cards .entry))) held r) ⌝ }
+{
+    let kind = blocks::kind_of(cards);
+    let taken = taken_by(kind, cards);
+    let broken = is_broken(kind, time, cards);
+    let refusal = refusal_by(number_of(kind), taken, held, broken);
+    if refusal != 0 {
+        return Shape {
+            refusal,
+            kind,
+            after: held,
+        };
+    }
+    Shape {
+        refusal: 0,
+        kind,
+        after: held - taken + 1,
+    }
+}
