@@ -6,7 +6,7 @@ use mathlib.Core.List.{List}
 use Prim.Native.Nat.{ℕ, _≤_, min}
 use native.Mathlib.Omega.{arith}
 use lib.ListN.{length}
-use Rattle.listing.specs.Bytes.{fromLittleEndian}
+use Rattle.slices.specs.Bytes.{fromLittleEndian}
 use Rattle.input.specs.declared.Next.{Next}
 use Rattle.input.specs.declared.Next.the-variants.{Number, End}
 

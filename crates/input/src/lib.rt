@@ -18,13 +18,7 @@ pub fn read_number() -> Next
     if read_all(&mut b) < 4 {
         return Next::End;
     }
-    Next::Number(listing::read_le(&b) as usize)
-}
-
-fn least(a: usize, b: usize) -> usize
-    ensures { λ r. ⌜ r ≡ min a b ⌝ }
-{
-    if a < b { a } else { b }
+    Next::Number(slices::read_le(&b) as usize)
 }
 
 // Reads what comes next, as much as the slice holds at most: 0 bytes where the input ends or a read fails.
@@ -83,7 +77,7 @@ fn pass(size: usize) -> bool {
 pub fn read_deck(deck: &mut [u8], size: usize) -> Next
     ensures { λ r. ⌜ Kept size (now (deck .exit)) r ⌝ }
 {
-    let kept = least(size, deck.len());
+    let kept = slices::smaller(size, deck.len());
     if fill(&mut deck[..kept]) && pass(size - kept) {
         return Next::Number(kept);
     }

@@ -26,7 +26,7 @@ use Rattle.results.specs.Peaks.{interval-bound, sum-bound}
 use Rattle.results.specs.Record.{recordBytes, record-of, length-blanksAfter}
 use Rattle.results.specs.Records.{Each, length-record}
 use Rattle.listing.specs.declared.Figures.{Figures}
-use Rattle.listing.specs.Bytes.{fromLittleEndian, read-back}
+use Rattle.slices.specs.Bytes.{fromLittleEndian, read-back}
 use Rattle.listing.specs.Trim.{trim-name}
 use Rattle.listing.specs.Written.{Written, written-text}
 use Rattle.listing.specs.Line.{figuresOf, figuresText, lineOf, linesTo, endLine, listingOf}

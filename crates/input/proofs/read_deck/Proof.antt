@@ -6,8 +6,8 @@ use borrow.Author.Needs.{needs}
 use Rattle.input.proofs.read_deck.Statement.{statement}
 use Rattle.input.proofs.read_deck.Tie as tie
 
-least-requires : tie.Need-least-requires
-least-requires c κs = search needs
+smaller-requires : tie.Need-smaller-requires
+smaller-requires c κs = search needs
 
 slice-relend-prefix-fill : tie.Need-slice-relend-prefix-fill
 slice-relend-prefix-fill c = search needs
@@ -40,7 +40,7 @@ pub read-deck-spec : {M : Type 1} → statement M
 read-deck-spec =
     tie.close
     (tie.spec
-    least-requires
+    smaller-requires
     slice-relend-prefix-fill
     slice-aggregate-fill
     fill-requires
