@@ -5,4 +5,3 @@ pub mod ClosedBlock
 pub mod WrittenResult
 pub mod NamedOrdinates
 pub mod BetweenBlocks
-pub mod Unique

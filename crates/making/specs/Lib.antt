@@ -1,4 +1,3 @@
 -- What making a block's hydrograph asks, and what it leaves.
 pub mod Made
 pub mod Kinds
-pub mod Unique

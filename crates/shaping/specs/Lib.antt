@@ -1,4 +1,3 @@
 -- What is asked of a block that closes, and what its lines alone decide.
 pub mod Limits
 pub mod Shapes
-pub mod Unique

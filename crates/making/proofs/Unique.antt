@@ -1,0 +1,10 @@
+-- Two outcomes that meet the contract of this crate, as its `ensures` line has it, are equal: what is held and the work words.
+use mathlib.Core.Path.{_≡_, sym, _∙_}
+use mathlib.Core.List.{[]}
+use denote.Ref.{now}
+use Rattle.sequences.specs.Contracts.{Once}
+use Rattle.making.proofs.make.Kinds as make
+use Rattle.making.proofs.make.Reads as make-says
+
+pub one-make : Once make.ps make.r make-says.Post (λ κs x y e f. (x ≡ y) × (now (e .0) ≡ now (f .0)))
+one-make κs a x y e f p q = (p [] .stack ∙ sym (q [] .stack), p [] .words ∙ sym (q [] .words))
