@@ -5,12 +5,9 @@ use mathlib.Core.Path.{_≡_, refl, sym, _∙_}
 use mathlib.Core.List.{List, []}
 use denote.Ref.{now}
 use Rattle.sequences.specs.Contracts.{Once}
-use Rattle.meaning.specs.Blocks as blocks
 use Rattle.meaning.specs.Blocks.{Time}
-use Rattle.blocks.specs.declared.Kind.{Kind}
-use Rattle.blocks.specs.declared.Kind.the-variants as kind
 use Rattle.blocks.specs.Cards.{blockOf}
-use Rattle.blocks.specs.Kinds.{kindMeant}
+use Rattle.blocks.specs.Kinds.{kind-told}
 use Rattle.blocks.proofs.take_values.Kinds as take-values
 use Rattle.blocks.proofs.take_values.Reads as take-values-says
 use Rattle.blocks.proofs.is_given.Kinds as is-given
@@ -47,20 +44,5 @@ one-take-values κs a x y e f p q =
     let same : x ≡ y = p .number τ refl [] ∙ sym (q .number τ refl []) in
     (same, λ (name : List ℕ). (rw same at (p .block name)) ∙ sym (q .block name))
 
-meantBack : blocks.Kind → Kind
-meantBack blocks.NoKind = kind.NoKind
-meantBack blocks.Basin = kind.Basin
-meantBack blocks.Inflow = kind.Inflow
-meantBack blocks.Confluence = kind.Confluence
-meantBack blocks.Reach = kind.Reach
-
-meant-back : (k : Kind) → k ≡ meantBack (kindMeant k)
-unfolding meantBack
-meant-back kind.NoKind = refl
-meant-back kind.Basin = refl
-meant-back kind.Inflow = refl
-meant-back kind.Confluence = refl
-meant-back kind.Reach = refl
-
 pub one-kind-of : Once kind-of.ps kind-of.r kind-of-says.Post (λ κs x y e f. x ≡ y)
-one-kind-of κs a x y e f p q = meant-back x ∙ rw (p [] ∙ sym (q [])) (sym (meant-back y))
+one-kind-of κs a x y e f p q = kind-told x y (p [] ∙ sym (q []))

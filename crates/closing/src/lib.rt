@@ -130,7 +130,7 @@ pub fn copy_last(ordinates: &mut [u64], work: &[u64], held: Stack, nq: usize)
         return;
     }
     let p = last_place(held);
-    zeros::copy_words(ordinates, &work[p..p + nq]);
+    slices::copy_words(ordinates, &work[p..p + nq]);
 }
 
 // The same, if block `k`, counted from 0, is the one that is named by its number from 1.

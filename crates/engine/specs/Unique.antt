@@ -2,7 +2,7 @@
 use Prim.Native.Nat.{ℕ}
 use mathlib.Core.Path.{_≡_, refl, ap}
 use mathlib.Core.List.{List}
-use Rattle.sequences.specs.Outcomes.{one-outcome}
+use Rattle.sequences.specs.Choices.{one-outcome}
 use Rattle.meaning.specs.Run as run
 use Rattle.meaning.specs.Run.{Outcome, Lent, outcome}
 use Rattle.engine.specs.declared.Answer.{Answer}

@@ -20,9 +20,9 @@ fn refuse(
 ) -> Answer
     ensures { λ a. ⌜ outcomeIs a (now (work .exit)) (now (ordinates .exit)) (now (records .exit)) ≡ refused number line (lentAs (now (work .entry)) (now (ordinates .entry)) (now (records .entry))) ⌝ }
 {
-    zeros::zero_words(work);
-    zeros::zero_words(ordinates);
-    zeros::zero_bytes(records);
+    slices::zero_words(work);
+    slices::zero_words(ordinates);
+    slices::zero_bytes(records);
     Answer::Refused(number, line)
 }
 
@@ -56,8 +56,8 @@ pub fn run(
     if deck.len() > 60000 {
         return refuse(2, 0, work, ordinates, records);
     }
-    zeros::zero_words(ordinates);
-    zeros::zero_bytes(records);
+    slices::zero_words(ordinates);
+    slices::zero_bytes(records);
     let mut rain = [0u64; 300];
     let mut units = [0u64; 150];
     let mut flow = [0u64; 300];
@@ -77,6 +77,6 @@ pub fn run(
     if lacks_room(w.nq, w.blocks, named, ordinates.len(), records.len()) {
         return refuse(17, 0, work, ordinates, records);
     }
-    zeros::zero_words(work);
+    slices::zero_words(work);
     Answer::Accepted(w.nq, w.blocks)
 }

@@ -5,20 +5,14 @@ use super::text_end;
 ghost use mathlib.Core.Path.{_≡_};
 ghost use Prim.Native.Nat.{_<_};
 ghost use lib.ListN.{length};
-ghost use Rattle.fields.specs.Spans.{smallerOf, fixedSpan};
-
-fn smaller(a: usize, b: usize) -> usize
-    ensures { λ r. ⌜ r ≡ smallerOf a b ⌝ }
-{
-    if a < b { a } else { b }
-}
+ghost use Rattle.fields.specs.Spans.{fixedSpan};
 
 // In fixed form: the columns from `c` up to `next`, blanks around the value dropped.
 pub fn fixed_span(l: &[u8], c: usize, next: usize) -> Span
     requires { ⌜ (c < length (now l)) × (c < next) ⌝ }
     ensures { λ r. ⌜ r ≡ fixedSpan (now (l .entry)) c next ⌝ }
 {
-    let end = smaller(next, l.len());
+    let end = slices::smaller(next, l.len());
     let p = &l[c..end];
     let skipped = past_blanks(p, 0);
     let kept = text_end(p, skipped);

@@ -1,5 +1,5 @@
 -- The listing of some records is the meaning's listing of their results.
---     Fits          what a record of 32 bytes can hold
+--     Fits          what a record of recordSize bytes can hold
 --     line-of       the line of a result's record is the line that is listed
 --     lines-of      and so for all of them
 --     listing-of    with the block count behind them
@@ -18,7 +18,7 @@ use Rattle.meaning.specs.Fields.{trimEnd, isBlank}
 use Rattle.meaning.specs.Records.{anyBlank}
 use Rattle.meaning.specs.Water.{flowLimit}
 use Rattle.meaning.specs.Blocks.{Time, Kind, NoKind, Basin, Inflow, Confluence, Reach, kindNumber, kindOf}
-use Rattle.meaning.specs.Results.{Result, peakOf, intervalOf, sumOf, littleEndian, blanksAfter, recordOf, recordsOf}
+use Rattle.meaning.specs.Results.{Result, peakOf, intervalOf, sumOf, littleEndian, blanksAfter, recordSize, recordOf, recordsOf}
 use Rattle.meaning.specs.Run.{Done}
 use Rattle.meaning.specs.Listing.{whole, twoPlaces, rounded, listed, listedAll, listingBy}
 use Rattle.sequences.specs.Parts.{part}
@@ -26,7 +26,7 @@ use Rattle.results.specs.Peaks.{interval-bound, sum-bound}
 use Rattle.results.specs.Record.{recordBytes, record-of, length-blanksAfter}
 use Rattle.results.specs.Records.{Each, length-record}
 use Rattle.listing.specs.declared.Figures.{Figures}
-use Rattle.listing.specs.Bytes.{fromLittleEndian, read-back}
+use Rattle.slices.specs.Bytes.{fromLittleEndian, read-back}
 use Rattle.listing.specs.Trim.{trim-name}
 use Rattle.listing.specs.Written.{Written, written-text}
 use Rattle.listing.specs.Line.{figuresOf, figuresText, lineOf, linesTo, endLine, listingOf}
@@ -51,7 +51,7 @@ same-figures : {k a p i s k′ a′ p′ i′ s′ : ℕ} → k ≡ k′ → a �
     → _≡_ {A = Figures} (record { kind = k; area = a; peak = p; interval = i; sum = s }) (record { kind = k′; area = a′; peak = p′; interval = i′; sum = s′ })
 same-figures e f g h l = rw (e, f, g, h, l)
 
--- What a record of 32 bytes can hold.
+-- What a record can hold.
 pub record Fits (r : Result) : Type 0 where
   pub short : length (r .block .name) ≤ 6
   pub plain : anyBlank (r .block .name) ≡ false
@@ -116,12 +116,12 @@ module _ (r : Result) (fit : Fits r) where
       line-parts
       ∙ regroup (r .block .name) (blank ∷ whole (f .kind)) (blank ∷ twoPlaces (f .area)) (blank ∷ twoPlaces (f .peak)) (blank ∷ whole (f .interval)) (blank ∷ whole (f .sum)) (lf ∷ [])
 
-lines-front : (r records : List ℕ) (k : ℕ) → length r ≡ 32 → linesTo (suc k) (r ++ records) ≡ lineOf r ++ linesTo k records
-lines-front r records zero long = rw (take-at r records 32 long) (sym (append-nil (lineOf r)))
+lines-front : (r records : List ℕ) (k : ℕ) → length r ≡ recordSize → linesTo (suc k) (r ++ records) ≡ lineOf r ++ linesTo k records
+lines-front r records zero long = rw (take-at r records recordSize long) (sym (append-nil (lineOf r)))
 lines-front r records (suc k) long =
-    let place : 32 * suc k ≡ 32 + 32 * k = omega arith in
-    let next : part (32 * suc k) 32 (r ++ records) ≡ part (32 * k) 32 records = rw (place, ← drop-drop (32 * k) 32 (r ++ records), drop-at r records 32 long) in
-    rw (next, lines-front r records k long) (append-assoc (lineOf r) (linesTo k records) (lineOf (part (32 * k) 32 records)))
+    let place : recordSize * suc k ≡ recordSize + recordSize * k = omega arith in
+    let next : part (recordSize * suc k) recordSize (r ++ records) ≡ part (recordSize * k) recordSize records = rw (place, ← drop-drop (recordSize * k) recordSize (r ++ records), drop-at r records recordSize long) in
+    rw (next, lines-front r records k long) (append-assoc (lineOf r) (linesTo k records) (lineOf (part (recordSize * k) recordSize records)))
 
 pub lines-of : (rs : List Result) (rest : List ℕ) → Each Fits rs → linesTo (length rs) (recordsOf rs ++ rest) ≡ listedAll rs
 lines-of [] rest fs = refl

@@ -1,4 +1,4 @@
--- Two outcomes that meet a contract of this crate, as its `ensures` lines have it, are equal.
+-- Two outcomes that meet the contract of this crate, as its `ensures` line has it, are equal: what is held and the work words.
 use mathlib.Core.Path.{_≡_, sym, _∙_}
 use mathlib.Core.List.{[]}
 use denote.Ref.{now}

@@ -4,8 +4,7 @@ ghost use mathlib.Core.Path.{_≡_};
 ghost use Prim.Native.Nat.{_+_, _*_, _<_, _≤_};
 ghost use lib.ListN.{length};
 use engine::Answer;
-use input::Next;
-use libc::STDOUT_FILENO;
+use streams::Next;
 
 fn put_byte(out: &mut [u8], at: usize, b: u8) -> usize
     requires { ⌜ at < length (now out) ⌝ }
@@ -59,7 +58,11 @@ fn put_answer(out: &mut [u8], answer: Answer) -> usize
             let end = put_number(out, second, blocks as u64);
             put_byte(out, end, b'\n')
         }
-        Answer::Refused(number, line) => listing::write_refusal(&mut out[..50], number, line),
+        Answer::Refused(number, line) => listing::write_refusal(
+            &mut out[..listing::REFUSAL],
+            number,
+            line,
+        ),
     }
 }
 
@@ -145,19 +148,13 @@ fn put_case(
     put_text(out, mark, b"--\n")
 }
 
-fn print(out: &[u8], n: usize)
-    requires { ⌜ n ≤ length (now out) ⌝ }
-{
-    io::write_all(STDOUT_FILENO, &out[..n]);
-}
-
 fn run_case(deck: &[u8], named: usize, work: &mut [u64], ordinates: &mut [u64], records: &mut [u8])
     requires { ⌜ (length (now ordinates) ≤ 600) × (length (now records) ≤ 16_000) ⌝ }
 {
     let answer = engine::run(deck, named, work, ordinates, records);
     let mut out = [0u8; 44_676];
     let n = put_case(&mut out, answer, work, ordinates, records);
-    print(&out, n);
+    streams::print(&out[..n]);
 }
 
 // What a case says before its deck.
@@ -192,37 +189,33 @@ enum Asked {
     Nothing,
 }
 
+// One of the numbers before a deck.
+fn number_at(b: &[u8], at: usize) -> usize
+    requires { ⌜ at + 4 ≤ length (now b) ⌝ }
+{
+    slices::read_le(&b[at..at + 4]) as usize
+}
+
 fn read_case() -> Asked {
-    let Next::Number(named) = input::read_number() else {
-        return Asked::Nothing;
-    };
-    let Next::Number(work) = input::read_number() else {
-        return Asked::Nothing;
-    };
-    let Next::Number(ordinates) = input::read_number() else {
-        return Asked::Nothing;
-    };
-    let Next::Number(records) = input::read_number() else {
-        return Asked::Nothing;
-    };
-    let Next::Number(size) = input::read_number() else {
-        return Asked::Nothing;
-    };
-    Asked::Run(Case {
-        named,
-        work,
-        ordinates,
-        records,
-        size,
-    })
+    let mut b = [0u8; 20];
+    match streams::fill(&mut b) {
+        Next::Number(_) => Asked::Run(Case {
+            named: number_at(&b, 0),
+            work: number_at(&b, 4),
+            ordinates: number_at(&b, 8),
+            records: number_at(&b, 12),
+            size: number_at(&b, 16),
+        }),
+        none => {
+            streams::explain(none);
+            Asked::Nothing
+        }
+    }
 }
 
 // Answers whether there was a whole case that asks no more than can be lent.
 fn answer_next(deck: &mut [u8]) -> bool {
     let Asked::Run(case) = read_case() else {
-        return false;
-    };
-    let Next::Number(kept) = input::read_deck(deck, case.size) else {
         return false;
     };
     if 12_000 < case.work {
@@ -234,14 +227,21 @@ fn answer_next(deck: &mut [u8]) -> bool {
     if 16_000 < case.records {
         return false;
     }
-    lend(&deck[..kept], case);
-    true
+    match streams::read_deck(deck, case.size) {
+        Next::Number(kept) => {
+            lend(&deck[..kept], case);
+            true
+        }
+        none => {
+            streams::explain(none);
+            false
+        }
+    }
 }
 
-// One byte more than a deck may have is kept: with it the deck is too long, whatever follows.
 // A proved loop has to end, and nothing says that the input does: no run uses up the turns.
 fn main() {
-    let mut deck = [0u8; 60_001];
+    let mut deck = [0u8; streams::DECK];
     let mut turns = u64::MAX;
     while 0 < turns && answer_next(&mut deck) {
         turns -= 1;

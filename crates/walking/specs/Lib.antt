@@ -1,11 +1,9 @@
 -- Laws of the walk over a deck.
-pub mod Passing
-pub mod Readings
-pub mod Standing
+pub mod Events
+pub mod Going
 pub mod Turns
-pub mod Moving
-pub mod Closings
-pub mod Stepping
-pub mod Doing
-pub mod Starting
-pub mod Unique
+pub mod ReadingOn
+pub mod OpenClosed
+pub mod Ways
+pub mod NextTurn
+pub mod Start

@@ -1,54 +1,25 @@
 // The walk over a deck: its blocks read one after the other, each closed as the next is opened, and what comes of them.
 ghost use mathlib.Core.Path.{_≡_};
+ghost use mathlib.Core.Bool.{true};
 ghost use Prim.Native.Nat.{_-_, _*_, _≤_};
 ghost use lib.ListN.{length, replicate};
-ghost use Rattle.walking.specs.Readings.{Begins, Opens, Roomy};
-ghost use mathlib.Core.Bool.{true};
-ghost use Rattle.walking.specs.Standing.{MayClose, ClosedBy, Going, TurnIs, WorkedIs};
-ghost use Rattle.walking.specs.Stepping.{copiedLast};
-ghost use Rattle.walking.specs.Doing.{OpensNext, EndsDeck};
 ghost use Rattle.sequences.specs.Parts.{part};
+ghost use Rattle.meaning.specs.Records.{table};
+ghost use Rattle.records.specs.Rows.{wordsOf};
+ghost use Rattle.blocks.specs.Meant.{timeIs};
 ghost use Rattle.stack.specs.View.{Fits};
+ghost use Rattle.reading.specs.Readings.{Ready, blockIs};
+ghost use Rattle.walking.specs.Going.{MayFinish, Finishes, MayClose, ClosedBy, Going, TurnIs, WorkedIs};
 ghost use Rattle.walking.specs.Turns.{StateBegins, Stops, GoesOn, workedWell};
-use closing::Finished;
+ghost use Rattle.walking.specs.Ways.{copiedLast};
+ghost use Rattle.walking.specs.NextTurn.{OpensNext, EndsDeck};
+use blocks::Name;
 use reading::Event;
-use reading::Name;
 use reading::Phase;
 use reading::Reading;
 use stack::Stack;
 
-// Where a deck's reading begins: fixed form, no time control.
-fn first_reading() -> Reading
-    ensures { λ r. ⌜ Begins r ⌝ }
-{
-    Reading {
-        phase: Phase::BeforeTime,
-        free: false,
-        minutes: 0,
-        ordinates: 0,
-        open: blocks::no_block(),
-    }
-}
-
-// The block of that name opened, where the reading stands.
-fn open_block(r: Reading, name: Name) -> Reading
-    requires { ⌜ name .letters ≤ 6 ⌝ }
-    ensures { λ x. ⌜ Opens r name x ⌝ }
-{
-    let mut open = blocks::no_block();
-    let bytes = name.bytes;
-    open.name = bytes;
-    open.letters = name.letters;
-    Reading {
-        phase: Phase::InBlock,
-        free: r.free,
-        minutes: r.minutes,
-        ordinates: r.ordinates,
-        open: open,
-    }
-}
-
-// Where the run stands between two blocks: the reading, what is held, the place in the deck, the lines passed, and the blocks opened.
+// Where the walk stands between two blocks: the reading, what is held, the place in the deck, the lines passed, and the blocks opened.
 pub struct State {
     pub reading: Reading,
     pub held: Stack,
@@ -66,11 +37,50 @@ pub struct Worked {
     pub blocks: usize,
 }
 
-// A turn of the run: it goes on from a state, or the deck is worked.
+// A turn of the walk: it goes on from a state, or the deck is worked.
 pub struct Turn {
     pub ended: bool,
     pub state: State,
     pub worked: Worked,
+}
+
+// A block finished: the refusal, 0 for none, and what is held.
+pub struct Finished {
+    pub refusal: u64,
+    pub held: Stack,
+}
+
+// The open block, before which `k` blocks were closed, closed; and, if it was not refused, its result written.
+fn finish_block(
+    r: Reading,
+    held: Stack,
+    k: usize,
+    named: usize,
+    work: &mut [u64],
+    ordinates: &mut [u64],
+    records: &mut [u8],
+    cards: &[u64],
+) -> Finished
+    requires { ⌜ MayFinish r held k (now work) (now cards) ⌝ }
+    ensures { λ x. ⌜ Finishes (timeIs (r .time)) (blockIs r (now (cards .entry))) held named k x (now (work .entry)) (now (work .exit)) (now (ordinates .entry)) (now (ordinates .exit)) (now (records .entry)) (now (records .exit)) ⌝ }
+{
+    let time = r.time;
+    let closed = closing::close_block(work, held, time, cards);
+    let next = closed.held;
+    let refusal = closed.refusal;
+    if refusal != 0 {
+        return Finished {
+            refusal,
+            held: next,
+        };
+    }
+    let name = r.name;
+    let nq = time.ordinates;
+    closing::write_result(name, closed, k, named, nq, work, ordinates, records);
+    Finished {
+        refusal,
+        held: next,
+    }
 }
 
 // Where KK or ZZ closes a block, if one is open.
@@ -82,12 +92,10 @@ fn close_open(
     work: &mut [u64],
     ordinates: &mut [u64],
     records: &mut [u8],
-    rain: &[u64],
-    units: &[u64],
-    flow: &[u64],
+    cards: &[u64],
 ) -> Finished
-    requires { ⌜ MayClose r held blocks (now work) (now rain) (now units) (now flow) ⌝ }
-    ensures { λ x. ⌜ ClosedBy (r .phase) r held blocks named x (now (work .entry)) (now (work .exit)) (now (ordinates .entry)) (now (ordinates .exit)) (now (records .entry)) (now (records .exit)) (now (rain .entry)) (now (units .entry)) (now (flow .entry)) ⌝ }
+    requires { ⌜ MayClose r held blocks (now work) (now cards) ⌝ }
+    ensures { λ x. ⌜ ClosedBy (r .phase) r held blocks named x (now (work .entry)) (now (work .exit)) (now (ordinates .entry)) (now (ordinates .exit)) (now (records .entry)) (now (records .exit)) (now (cards .entry)) ⌝ }
 {
     let phase = r.phase;
     match phase {
@@ -100,30 +108,18 @@ fn close_open(
             held: held,
         },
         Phase::InBlock => {
-            let o = r.open;
-            closing::finish_block(
-                work,
-                held,
-                r.ordinates,
-                r.minutes,
-                o,
-                rain,
-                units,
-                flow,
-                blocks - 1,
-                named,
-                ordinates,
-                records,
-            )
+            let k = blocks - 1;
+            finish_block(r, held, k, named, work, ordinates, records, cards)
         }
     }
 }
 
-fn first_state() -> State
-    ensures { λ s. ⌜ StateBegins s ⌝ }
+fn first_state(cards: &mut [u64]) -> State
+    requires { ⌜ wordsOf table ≤ length (now cards) ⌝ }
+    ensures { λ s. ⌜ StateBegins s (now (cards .exit)) ⌝ }
 {
     State {
-        reading: first_reading(),
+        reading: reading::first_reading(cards),
         held: stack::hold_none(),
         at: 0,
         line: 0,
@@ -132,12 +128,12 @@ fn first_state() -> State
 }
 
 // The deck is refused.
-fn stop(number: u64, line: u64) -> Turn
+fn stop(s: State, number: u64, line: u64) -> Turn
     ensures { λ t. ⌜ Stops number line t ⌝ }
 {
     Turn {
         ended: true,
-        state: first_state(),
+        state: s,
         worked: Worked {
             refused: true,
             number: number,
@@ -149,14 +145,22 @@ fn stop(number: u64, line: u64) -> Turn
 }
 
 // Goes on in the block that is opened next.
-fn go_on(r: Reading, held: Stack, name: Name, at: usize, line: u64, blocks: usize) -> Turn
-    requires { ⌜ (name .letters ≤ 6) × (blocks ≤ 200) ⌝ }
-    ensures { λ t. ⌜ GoesOn r held name at line blocks t ⌝ }
+fn go_on(
+    r: Reading,
+    held: Stack,
+    name: Name,
+    at: usize,
+    line: u64,
+    blocks: usize,
+    cards: &mut [u64],
+) -> Turn
+    requires { ⌜ (name .letters ≤ 6) × (blocks ≤ 200) × Ready r (now cards) ⌝ }
+    ensures { λ t. ⌜ GoesOn r held name at line blocks t (now (cards .exit)) ⌝ }
 {
     Turn {
         ended: false,
         state: State {
-            reading: open_block(r, name),
+            reading: reading::open_block(r, name, cards),
             held: held,
             at: at,
             line: line,
@@ -173,12 +177,12 @@ fn go_on(r: Reading, held: Stack, name: Name, at: usize, line: u64, blocks: usiz
 }
 
 // All blocks of the deck are closed, and one is held.
-fn finish(nq: usize, blocks: usize) -> Turn
+fn finish(s: State, nq: usize, blocks: usize) -> Turn
     ensures { λ t. ⌜ (t .ended ≡ true) × (t .worked ≡ workedWell nq blocks) ⌝ }
 {
     Turn {
         ended: true,
-        state: first_state(),
+        state: s,
         worked: Worked {
             refused: false,
             number: 0,
@@ -201,44 +205,53 @@ fn copy_if_last(ordinates: &mut [u64], work: &[u64], held: Stack, nq: usize, nam
 }
 
 // KK: unless the block that was open was refused where it closed, the next one is opened.
-fn open_next(r: Reading, name: Name, at: usize, line: u64, closed: Finished, blocks: usize) -> Turn
-    requires { ⌜ name .letters ≤ 6 ⌝ }
-    ensures { λ t. ⌜ OpensNext r name at line closed blocks t ⌝ }
+fn open_next(
+    s: State,
+    r: Reading,
+    name: Name,
+    at: usize,
+    line: u64,
+    closed: Finished,
+    cards: &mut [u64],
+) -> Turn
+    requires { ⌜ (name .letters ≤ 6) × Ready r (now cards) ⌝ }
+    ensures { λ t. ⌜ OpensNext r name at line closed (s .blocks) t (now (cards .exit)) ⌝ }
 {
     let refusal = closed.refusal;
     if refusal != 0 {
-        return stop(refusal, line);
+        return stop(s, refusal, line);
     }
+    let blocks = s.blocks;
     if blocks >= 200 {
-        return stop(14, line);
+        return stop(s, 14, line);
     }
     let next = closed.held;
-    go_on(r, next, name, at, line, blocks)
+    go_on(r, next, name, at, line, blocks, cards)
 }
 
 // ZZ: unless the block that was open was refused where it closed, one hydrograph is to be held.
 fn end_deck(
-    r: Reading,
+    s: State,
+    nq: usize,
     line: u64,
     closed: Finished,
-    blocks: usize,
     named: usize,
     work: &[u64],
     ordinates: &mut [u64],
 ) -> Turn
-    requires { ⌜ Fits 1 (r .ordinates) (length (now work)) ⌝ }
-    ensures { λ t. ⌜ EndsDeck r line closed blocks named t (now (work .entry)) (now (ordinates .entry)) (now (ordinates .exit)) ⌝ }
+    requires { ⌜ Fits 1 nq (length (now work)) ⌝ }
+    ensures { λ t. ⌜ EndsDeck nq line closed (s .blocks) named t (now (work .entry)) (now (ordinates .entry)) (now (ordinates .exit)) ⌝ }
 {
     let refusal = closed.refusal;
     if refusal != 0 {
-        return stop(refusal, line);
+        return stop(s, refusal, line);
     }
     let last = closed.held;
     if last.depth != 1 {
-        return stop(15, line);
+        return stop(s, 15, line);
     }
-    copy_if_last(ordinates, work, last, r.ordinates, named);
-    finish(r.ordinates, blocks)
+    copy_if_last(ordinates, work, last, nq, named);
+    finish(s, nq, s.blocks)
 }
 
 // Reads on to the next block's opening or the deck's end, and does what is due there.
@@ -249,52 +262,29 @@ fn step(
     work: &mut [u64],
     ordinates: &mut [u64],
     records: &mut [u8],
-    rain: &mut [u64],
-    units: &mut [u64],
-    flow: &mut [u64],
+    cards: &mut [u64],
 ) -> Turn
-    requires { ⌜ Going (now deck) named (length (now ordinates)) (length (now records)) s (now work) (now ordinates) (now records) (now rain) (now units) (now flow) ⌝ }
-    ensures { λ t. ⌜ TurnIs (now (deck .entry)) named (length (now (ordinates .entry))) (length (now (records .entry))) (s .at) t (now (work .exit)) (now (ordinates .exit)) (now (records .exit)) (now (rain .exit)) (now (units .exit)) (now (flow .exit)) ⌝ }
+    requires { ⌜ Going (now deck) named (length (now ordinates)) (length (now records)) s (now work) (now ordinates) (now records) (now cards) ⌝ }
+    ensures { λ t. ⌜ TurnIs (now (deck .entry)) named (length (now (ordinates .entry))) (length (now (records .entry))) (s .at) t (now (work .exit)) (now (ordinates .exit)) (now (records .exit)) (now (cards .exit)) ⌝ }
 {
     let start = s.reading;
-    let got = reading::read_on(deck, s.at, s.line, start, rain, units, flow);
+    let got = reading::read_on(deck, s.at, s.line, start, cards);
     let r = got.reading;
     let held = s.held;
     let event = got.event;
     match event {
-        Event::Refused(number) => stop(number, got.line),
+        Event::Refused(number) => stop(s, number, got.line),
         Event::Opened => {
             let name = got.name;
-            let closed = close_open(
-                r,
-                held,
-                s.blocks,
-                named,
-                work,
-                ordinates,
-                records,
-                rain,
-                units,
-                flow,
-            );
-            open_next(r, name, got.at, got.line, closed, s.blocks)
+            let closed = close_open(r, held, s.blocks, named, work, ordinates, records, cards);
+            open_next(s, r, name, got.at, got.line, closed, cards)
         }
         Event::Ended => {
-            let closed = close_open(
-                r,
-                held,
-                s.blocks,
-                named,
-                work,
-                ordinates,
-                records,
-                rain,
-                units,
-                flow,
-            );
-            end_deck(r, got.line, closed, s.blocks, named, work, ordinates)
+            let time = r.time;
+            let closed = close_open(r, held, s.blocks, named, work, ordinates, records, cards);
+            end_deck(s, time.ordinates, got.line, closed, named, work, ordinates)
         }
-        Event::Missing => stop(16, 0),
+        Event::Missing => stop(s, 16, 0),
     }
 }
 
@@ -305,18 +295,15 @@ pub fn walk_deck(
     work: &mut [u64],
     ordinates: &mut [u64],
     records: &mut [u8],
-    rain: &mut [u64],
-    units: &mut [u64],
-    flow: &mut [u64],
+    cards: &mut [u64],
 ) -> Worked
-    requires { ⌜ 6_000 ≤ length (now work) ⌝ }
+    requires { ⌜ (6_000 ≤ length (now work)) × (wordsOf table ≤ length (now cards)) ⌝ }
     requires { ⌜ (now ordinates ≡ replicate (length (now ordinates)) 0) × (now records ≡ replicate (length (now records)) 0) ⌝ }
-    requires { ⌜ Roomy (now rain) (now units) (now flow) ⌝ }
     ensures { λ w. ⌜ WorkedIs (now (deck .entry)) named (length (now (ordinates .entry))) (length (now (records .entry))) w (now (ordinates .exit)) (now (records .exit)) ⌝ }
 {
-    let mut s = first_state();
+    let mut s = first_state(cards);
     loop {
-        let t = step(deck, named, s, work, ordinates, records, rain, units, flow);
+        let t = step(deck, named, s, work, ordinates, records, cards);
         if t.ended {
             let w = t.worked;
             return w;

@@ -1,94 +1,42 @@
 -- What is kept of the deck lies within its slice; the three tests give what `lend` asks.
-use mathlib.Core.Path.{sym}
+use Prim.Native.Nat.{ℕ, min}
+use mathlib.Core.Path.{_≡_, sym}
+use native.Mathlib.Omega.{arith}
+use lib.ListN.{length}
 use lib.Seq.{length-take-le}
-use Rattle.input.specs.Kept.{kept-within}
+use Rattle.streams.specs.Kept.{of-number}
 use borrow.Author.Needs.{needs}
 use Rattle.rooms.proofs.answer_next.Statement.{statement}
 use Rattle.rooms.proofs.answer_next.Tie as tie
 
-read-case-requires : tie.Need-read-case-requires
-read-case-requires c κs = search needs
-
-enum-known-case : tie.Need-enum-known-case
-enum-known-case c = search needs
-
-enum-told : tie.Need-enum-told
-enum-told c = search needs
-
-returns : tie.Need-returns
-returns c = search needs
-
-read-deck-requires : tie.Need-read-deck-requires
-read-deck-requires c κs = search needs
-
-enum-known-kept : tie.Need-enum-known-kept
-enum-known-kept c = search needs
-
-enum-told-2 : tie.Need-enum-told-2
-enum-told-2 c = search needs
-
-same-length : tie.Need-same-length
-same-length c = search needs
-
-returns-2 : tie.Need-returns-2
-returns-2 c = search needs
-
-same-length-2 : tie.Need-same-length-2
-same-length-2 c = search needs
-
-returns-3 : tie.Need-returns-3
-returns-3 c = search needs
-
-same-length-3 : tie.Need-same-length-3
-same-length-3 c = search needs
-
-returns-4 : tie.Need-returns-4
-returns-4 c = search needs
-
-same-length-4 : tie.Need-same-length-4
-same-length-4 c = search needs
-
-returns-5 : tie.Need-returns-5
-returns-5 c = search needs
-
 slice-reshare-prefix-lend : tie.Need-slice-reshare-prefix-lend
 slice-reshare-prefix-lend c =
-    let k = c .before .before .before .before .before .before .before in
-    kept-within _ _ (k .kept .given .1) (k .before .before .before .before .read-deck .ensures)
+    let d = c .before .before .before .before .before .read-deck in
+    let size = c .before .before .before .before .before .before .before .before .before .before .before .before .before .before .case .given .0 .0 .size in
+    let least = of-number (λ (n : ℕ). n ≡ min size (length (d .last .0))) (c .before .kept .given .1) (d .ensures) in
+    omega arith
 
 slice-aggregate-lend : tie.Need-slice-aggregate-lend
 slice-aggregate-lend c = sym (length-take-le _ _ (slice-reshare-prefix-lend (c .before)))
-
-lend-requires : tie.Need-lend-requires
-lend-requires c κs = search needs
-
-same-length-5 : tie.Need-same-length-5
-same-length-5 c = search needs
-
-returns-6 : tie.Need-returns-6
-returns-6 c = search needs
 
 pub answer-next-spec : {M : Type 1} → statement M
 answer-next-spec =
     tie.close
     (tie.spec
-    read-case-requires
-    enum-known-case
-    enum-told
-    returns
-    read-deck-requires
-    enum-known-kept
-    enum-told-2
-    same-length
-    returns-2
-    same-length-2
-    returns-3
-    same-length-3
-    returns-4
-    same-length-4
-    returns-5
+    (λ c κs. search needs)  -- read-case-requires
+    (λ c. search needs)  -- enum-known-case
+    (λ c. search needs)  -- enum-told
+    (λ c. search needs)  -- returns
+    (λ c. search needs)  -- returns-2
+    (λ c. search needs)  -- returns-3
+    (λ c. search needs)  -- returns-4
+    (λ c κs. search needs)  -- read-deck-requires
+    (λ c. search needs)  -- enum-known-kept
     slice-reshare-prefix-lend
     slice-aggregate-lend
-    lend-requires
-    same-length-5
-    returns-6)
+    (λ c κs. search needs)  -- lend-requires
+    (λ c κs. search needs)  -- explain-requires
+    (λ c. search needs)  -- same-length
+    (λ c. search needs)  -- returns-5
+    (λ c. search needs)  -- same-length-2
+    (λ c. search needs))  -- returns-6

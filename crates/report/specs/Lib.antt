@@ -1,4 +1,0 @@
-pub mod Counted
-pub mod Done
-pub mod Printed
-pub mod Unique

@@ -1,0 +1,74 @@
+-- The block that was open, closed: the refusal that the definitions ask for, and what the run then has.
+--     closed-number    the refusal
+--     ClosedWell       where there is none: what is held and the results are those of the definitions, and what was lent holds them
+use Prim.Native.Nat.{ℕ, _+_, _-_}
+use mathlib.Core.Path.{_≡_, refl, sym, _∙_}
+use mathlib.Core.List.{List, [], _∷_, _++_}
+use native.Mathlib.Omega.{arith}
+use lib.ListN.{length, length-append}
+use Rattle.meaning.specs.Results.{Result}
+use Rattle.meaning.specs.Run as run
+use Rattle.meaning.specs.Run.{Standing, openRefusal, closed, withResult}
+use Rattle.limits.specs.Within.{ReadingWithin}
+use Rattle.fields.specs.Spans.{formOf}
+use Rattle.reading.specs.declared.Phase.{Phase}
+use Rattle.reading.specs.declared.Phase.the-variants as phase
+use Rattle.reading.specs.declared.Reading.{Reading}
+use Rattle.blocks.specs.Meant.{timeIs}
+use Rattle.reading.specs.Readings.{readingIs, readingBy, blockIs}
+use Rattle.reading.specs.Labels.{name-short}
+use Rattle.stack.specs.declared.Stack.{Stack}
+use Rattle.stack.specs.View.{view}
+use Rattle.walking.specs.declared.Finished.{Finished}
+use Rattle.closing.specs.WrittenResult.{resultOf, told-number}
+use Rattle.closing.specs.BetweenBlocks.{Carried, carried-more, HeldAfter, held-more}
+use Rattle.walking.specs.Going.{standing, CountBy, Finishes, ClosedBy}
+
+pub record ClosedWell (named n m : ℕ) (q : run.Reading) (s : Standing) (nq : ℕ) (x : Finished) (work ordinates records : List ℕ) : Type 0 where
+  pub held-is : view (x .held) nq work ≡ closed q s .held
+  pub held : HeldAfter (length (closed q s .results)) (x .held) nq work
+  pub carried : Carried named nq n m (closed q s .results) ordinates records
+
+module _ (named n m : ℕ) (r : Reading) (h : Stack) (blocks : ℕ) (x : Finished) (work work′ ordinates ordinates′ records records′ cards : List ℕ) (rs : List Result) where
+  abbrev reading : Phase → run.Reading
+  reading p = readingBy p (timeIs (r .time)) (formOf (r .free)) (blockIs r cards)
+
+  abbrev now-standing : Standing
+  now-standing = standing blocks (view h (r .time .ordinates) work) rs
+
+  number-by : (p : Phase) → ClosedBy p r h blocks named x work work′ ordinates ordinates′ records records′ cards → x .refusal ≡ openRefusal (reading p) now-standing
+  number-by phase.BeforeTime c = c .0
+  number-by phase.BeforeBlocks c = c .0
+  number-by phase.InBlock c = c .number ∙ told-number (c .closes)
+
+  pub closed-number : ClosedBy (r .phase) r h blocks named x work work′ ordinates ordinates′ records records′ cards → x .refusal ≡ openRefusal (readingIs r cards) now-standing
+  closed-number c = number-by (r .phase) c
+
+  module _ (held : HeldAfter (length rs) h (r .time .ordinates) work) (carried : Carried named (r .time .ordinates) n m rs ordinates records) (lw : length work′ ≡ length work)
+      (lo : length ordinates′ ≡ length ordinates) (lr : length records′ ≡ length records) (none : x .refusal ≡ 0) where
+    idle : (q : run.Reading) → closed q now-standing ≡ now-standing → (x .refusal ≡ 0) × (x .held ≡ h) × (work′ ≡ work) × (ordinates′ ≡ ordinates) × (records′ ≡ records)
+        → ClosedWell named n m q now-standing (r .time .ordinates) x work′ ordinates′ records′
+    idle q e c = record { held-is = rw (e, c .1, c .2); held = rw (e, c .1, c .2) held; carried = rw (e, c .3, c .4) carried }
+
+    well-by : (p : Phase) → ReadingWithin (reading p) → CountBy p blocks (length rs) (h .depth)
+        → ClosedBy p r h blocks named x work work′ ordinates ordinates′ records records′ cards → ClosedWell named n m (reading p) now-standing (r .time .ordinates) x work′ ordinates′ records′
+    unfolding withResult
+    well-by phase.BeforeTime w k c = idle (reading phase.BeforeTime) refl c
+    well-by phase.BeforeBlocks w k c = idle (reading phase.BeforeBlocks) refl c
+    well-by phase.InBlock w k c =
+        let b = blockIs r cards in
+        let count : blocks - 1 ≡ length rs = omega arith in
+        let f : Finishes (timeIs (r .time)) b h named (length rs) x work work′ ordinates ordinates′ records records′ = rw count at c in
+        let sound = sym (f .number) ∙ none in
+        let keeps = f .closes .keeps sound in
+        let long : length (rs ++ (resultOf (timeIs (r .time)) b h work ∷ [])) ≡ length rs + 1 = length-append rs (resultOf (timeIs (r .time)) b h work ∷ []) in
+        record {
+          held-is = rw (f .held) (keeps .held);
+          held = rw (f .held, long) (held-more (timeIs (r .time)) b (length rs) h (f .closed .held) work work′ held lw keeps);
+          carried = carried-more rs (f .closes) sound (name-short (b .name) (w .1 .name)) (f .copied none) (f .written none) lo lr carried;
+        }
+
+    pub closed-well : ReadingWithin (readingIs r cards) → CountBy (r .phase) blocks (length rs) (h .depth)
+        → ClosedBy (r .phase) r h blocks named x work work′ ordinates ordinates′ records records′ cards
+        → ClosedWell named n m (readingIs r cards) now-standing (r .time .ordinates) x work′ ordinates′ records′
+    closed-well w k c = well-by (r .phase) w k c

@@ -1,0 +1,101 @@
+-- Reading on from one block to the next leaves what is held and what was written as they are, and the count of blocks fits where the reading then stands.
+--     Moved        what holds where a block is opened or the deck ended
+--     moved        and that it does
+use Prim.Native.Nat.{ℕ, _+_, _-_, _≤_}
+use mathlib.Core.Path.{_≡_, refl, sym, ap, _∙_, subst}
+use mathlib.Core.List.{List, [], _∷_}
+use native.Mathlib.Omega.{arith}
+use lib.ListN.{length, drop}
+use Rattle.meaning.specs.Lines.{linesOf}
+use Rattle.meaning.specs.Fields.{Form}
+use Rattle.meaning.specs.Blocks.{Time, Block}
+use Rattle.meaning.specs.Results.{Result}
+use Rattle.meaning.specs.Run as run
+use Rattle.meaning.specs.Run.{Event}
+use Rattle.limits.specs.ReadOn.{Met, readOn}
+use Rattle.limits.specs.Within.{ReadingWithin, EventWithin, FoundWithin, found-within}
+use Rattle.limits.specs.Times.{Under, FoundUnder, found-under, Outside, FoundOutside, found-outside}
+use Rattle.fields.specs.Spans.{formOf}
+use Rattle.reading.specs.declared.Phase.{Phase}
+use Rattle.reading.specs.declared.Phase.the-variants as phase
+use Rattle.reading.specs.declared.Reading.{Reading}
+use Rattle.blocks.specs.Meant.{timeIs}
+use Rattle.reading.specs.Readings.{readingIs, readingBy, Ready, blockIs}
+use Rattle.stack.specs.declared.Stack.{Stack}
+use Rattle.stack.specs.View.{view}
+use Rattle.closing.specs.BetweenBlocks.{Carried, carried-none, HeldAfter}
+use Rattle.walking.specs.declared.State.{State}
+use Rattle.walking.specs.Going.{CountBy, Going, MayClose}
+
+-- before the first result the number of ordinates asked for does not matter
+carried-moved : (named nq nq′ n m : ℕ) (rs : List Result) (ordinates records : List ℕ) → length rs ≡ 0 → Carried named nq n m rs ordinates records → Carried named nq′ n m rs ordinates records
+carried-moved named nq nq′ n m [] ordinates records e c =
+    record { names = tt; n-long = c .n-long; m-long = c .m-long; flow = c .flow ∙ sym (carried-none named nq n m .flow) ∙ carried-none named nq′ n m .flow; told = c .told }
+carried-moved named nq nq′ n m (r ∷ rs) ordinates records e c = absurd (omega arith)
+
+none-held : (nq nq′ : ℕ) (s : Stack) (w : List ℕ) → s .depth ≡ 0 → view s nq′ w ≡ view s nq w
+none-held nq nq′ s w e = rw e
+
+held-moved : (k nq nq′ : ℕ) (s : Stack) (w : List ℕ) → s .depth ≡ 0 → nq′ ≤ 300 → HeldAfter k s nq w → HeldAfter k s nq′ w
+held-moved k nq nq′ s w e few h =
+    record {
+      fits = record { deep = h .fits .deep; ordinates = few; enough = h .fits .enough };
+      flows = rw (none-held nq nq′ s w e) (h .flows);
+      areas = rw (none-held nq nq′ s w e) (h .areas);
+    }
+
+-- where the reading then stands: r, in place of the one that it went on from
+pub record Moved (named n m : ℕ) (s : State) (r : Reading) (rs : List Result) (work ordinates records : List ℕ) : Type 0 where
+  pub held : HeldAfter (length rs) (s .held) (r .time .ordinates) work
+  pub count : CountBy (r .phase) (s .blocks) (length rs) (s .held .depth)
+  pub carried : Carried named (r .time .ordinates) n m rs ordinates records
+  pub same : view (s .held) (r .time .ordinates) work ≡ view (s .held) (s .reading .time .ordinates) work
+
+under-phase : (p : Phase) (τ τ′ : Time) (form : Form) (b : Block) → Under τ (readingBy p τ′ form b) → (p ≡ phase.InBlock) × (τ′ ≡ τ)
+under-phase phase.BeforeTime τ τ′ form b h = absurd h
+under-phase phase.BeforeBlocks τ τ′ form b h = absurd h
+under-phase phase.InBlock τ τ′ form b h = (refl, h)
+
+count-outside : (p : Phase) (τ : Time) (form : Form) (b : Block) (blocks results depth : ℕ) → Outside (readingBy p τ form b) → (blocks ≡ 0) × (results ≡ 0) × (depth ≡ 0) → CountBy p blocks results depth
+count-outside phase.BeforeTime τ form b blocks results depth o h = h
+count-outside phase.BeforeBlocks τ form b blocks results depth o h = h
+count-outside phase.InBlock τ form b blocks results depth o h = absurd o
+
+module _ (deck : List ℕ) (named n m : ℕ) (s : State) (work ordinates records cards : List ℕ) (g : Going deck named n m s work ordinates records cards)
+    (e : Event) (r : Reading) (line : ℕ) (rest : List (List ℕ)) (cards′ : List ℕ)
+    (found : readOn (linesOf (drop (s .at) deck)) (readingIs (s .reading) cards) (s .line + 1) ≡ Met e (readingIs r cards′) line rest)
+    (ready : Ready r cards′) where
+  abbrev lines : List (List ℕ)
+  lines = linesOf (drop (s .at) deck)
+
+  pub limits : EventWithin e × ReadingWithin (readingIs r cards′)
+  limits = subst FoundWithin found (found-within lines (readingIs (s .reading) cards) (s .line + 1) (g .within))
+
+  -- outside blocks nothing is held yet
+  out : (p : Phase) → s .reading .phase ≡ p → Outside (readingBy p (timeIs (s .reading .time)) (formOf (s .reading .free)) (blockIs (s .reading) cards))
+      → (s .blocks ≡ 0) × (length (g .results) ≡ 0) × (s .held .depth ≡ 0) → Moved named n m s r (g .results) work ordinates records
+  out p at o zero-all =
+      let start : Outside (readingIs (s .reading) cards) = rw at o in
+      let end = subst FoundOutside found (found-outside lines (readingIs (s .reading) cards) (s .line + 1) start) in
+      record {
+        held = held-moved (length (g .results)) (s .reading .time .ordinates) (r .time .ordinates) (s .held) work (zero-all .2) (ready .few-ordinates) (g .held);
+        count = count-outside (r .phase) (timeIs (r .time)) (formOf (r .free)) (blockIs r cards′) (s .blocks) (length (g .results)) (s .held .depth) end zero-all;
+        carried = carried-moved named (s .reading .time .ordinates) (r .time .ordinates) n m (g .results) ordinates records (zero-all .1) (g .carried);
+        same = none-held (s .reading .time .ordinates) (r .time .ordinates) (s .held) work (zero-all .2);
+      }
+
+  by-phase : (p : Phase) → s .reading .phase ≡ p → CountBy p (s .blocks) (length (g .results)) (s .held .depth) → Moved named n m s r (g .results) work ordinates records
+  by-phase phase.BeforeTime at h = out phase.BeforeTime at tt h
+  by-phase phase.BeforeBlocks at h = out phase.BeforeBlocks at tt h
+  by-phase phase.InBlock at h =
+      let start : Under (timeIs (s .reading .time)) (readingIs (s .reading) cards) = rw at refl in
+      let end = subst (FoundUnder (timeIs (s .reading .time))) found (found-under (timeIs (s .reading .time)) lines (readingIs (s .reading) cards) (s .line + 1) start) in
+      let there = under-phase (r .phase) (timeIs (s .reading .time)) (timeIs (r .time)) (formOf (r .free)) (blockIs r cards′) (end .1) in
+      let nq : r .time .ordinates ≡ s .reading .time .ordinates = ap (λ (τ : Time). τ .ordinates) (there .1) in
+      record { held = rw nq (g .held); count = rw (there .0) h; carried = rw nq (g .carried); same = rw nq refl }
+
+  pub moved : Moved named n m s r (g .results) work ordinates records
+  moved = by-phase (s .reading .phase) refl (g .count)
+
+  pub may-close : MayClose r (s .held) (s .blocks) work cards′
+  may-close = record { ready = ready; within = limits .1; before = length (g .results); held = moved .held; count = moved .count }

@@ -1,0 +1,28 @@
+-- Where the run starts: fixed form, nothing held, no results, and zeros lent for them.
+use Prim.Native.Nat.{ℕ, _≤_, zero-le}
+use mathlib.Core.Path.{_≡_, refl, _∙_}
+use mathlib.Core.List.{List, []}
+use lib.ListN.{length, replicate}
+use Rattle.meaning.specs.Run.{worked}
+use Rattle.closing.specs.BetweenBlocks.{carried-none, held-none}
+use Rattle.walking.specs.declared.State.{State}
+use Rattle.walking.specs.Going.{Going}
+use Rattle.walking.specs.Turns.{StateBegins}
+
+module _ (deck : List ℕ) (named : ℕ) (s : State) (work ordinates records cards : List ℕ) where
+  pub starts : StateBegins s cards → 6_000 ≤ length work → ordinates ≡ replicate (length ordinates) 0 → records ≡ replicate (length records) 0
+      → Going deck named (length ordinates) (length records) s work ordinates records cards
+  unfolding worked
+  starts b enough no-flow untold =
+      let c = carried-none named (s .reading .time .ordinates) (length ordinates) (length records) in
+      record {
+        results = [];
+        up = rw (b .at) zero-le;
+        counted = rw (b .line) zero-le;
+        ready = b .reading .ready;
+        within = rw (b .reading .is) tt;
+        held = rw (b .held) (held-none (s .reading .time .ordinates) work (b .reading .ready .few-ordinates) enough);
+        count = rw (b .reading .phase, b .blocks, b .held) (refl, refl, refl);
+        carried = record { names = tt; n-long = refl; m-long = refl; flow = no-flow ∙ c .flow; told = λ h. untold ∙ c .told h };
+        walked = rw (b .reading .is, b .at, b .line, b .blocks, b .held) refl;
+      }
