@@ -54,8 +54,8 @@ kept-after zero b held some = absurd (some refl)
 kept-after (suc n) b held some = refl
 
 module _ (τ : Time) (b : Block) (held : ℕ) (kind : Kind) (e : kindMeant kind ≡ kindOf b) where
-  pub shape-refused : (n : ℕ) → n ≡ shapeRefusal τ b held → (n ≡ 0 → ⊥) → ShapeIs τ b held (record { refusal = n; kind = kind; after = held })
-  shape-refused n h some = record { number = h; kind = e; after = kept-after n b held some }
+  pub shape-refused : (n after : ℕ) → n ≡ shapeRefusal τ b held → (n ≡ 0 → ⊥) → after ≡ held → ShapeIs τ b held (record { refusal = n; kind = kind; after = after })
+  shape-refused n after h some a = record { number = h; kind = e; after = a ∙ kept-after n b held some }
 
   pub shape-sound : (after : ℕ) → 0 ≡ shapeRefusal τ b held → after ≡ held - takesBy (kindMeant kind) b + 1
       → ShapeIs τ b held (record { refusal = 0; kind = kind; after = after })
