@@ -22,10 +22,16 @@ returns-3 c =
     rw (ne-eqb _ _ (c .before .before .if1 .left), le-ltb _ _ (c .before .if2 .left), le-leb _ _ full)
 
 returns-4 : tie.Need-returns-4
-returns-4 c = rw (ne-eqb _ _ (c .before .before .before .if1 .left), le-ltb _ _ (c .before .before .if2 .left), lt-leb 20 _ (c .before .if3 .left), c .if4 .taken)
+returns-4 c =
+    let x = c .before .before .before .before .args in
+    let room : x .held - x .taken < 20 = omega (arith, c .before .if3 .left) in
+    rw (ne-eqb _ _ (c .before .before .before .if1 .left), le-ltb _ _ (c .before .before .if2 .left), lt-leb _ _ room, c .if4 .taken)
 
 returns-5 : tie.Need-returns-5
-returns-5 c = rw (ne-eqb _ _ (c .before .before .before .if1 .left), le-ltb _ _ (c .before .before .if2 .left), lt-leb 20 _ (c .before .if3 .left), c .if4 .left)
+returns-5 c =
+    let x = c .before .before .before .before .args in
+    let room : x .held - x .taken < 20 = omega (arith, c .before .if3 .left) in
+    rw (ne-eqb _ _ (c .before .before .before .if1 .left), le-ltb _ _ (c .before .before .if2 .left), lt-leb _ _ room, c .if4 .left)
 
 pub refusal-by-spec : {M : Type 1} → statement M
 refusal-by-spec =
