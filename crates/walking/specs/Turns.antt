@@ -2,6 +2,7 @@
 use Prim.Native.Nat.{ℕ, _+_}
 use mathlib.Core.Path.{_≡_}
 use mathlib.Core.Bool.{true, false}
+use mathlib.Core.List.{List}
 use Rattle.reading.specs.declared.Reading.{Reading}
 use Rattle.blocks.specs.declared.Name.{Name}
 use Rattle.stack.specs.declared.Stack.{Stack}

@@ -149,7 +149,7 @@ module _ (deck : List ℕ) (named n m : ℕ) (s : State) (work ordinates records
       same-next = goes .reading .is ∙ rw (timed .0, timed .1)
 
       nq : reading .time .ordinates ≡ r .time .ordinates
-      nq = goes .reading .time .ordinates
+      nq = ap (λ (u : times.Time). u .ordinates) (goes .reading .time)
 
       more : oneMore (closed q stand) ≡ standing (s .blocks + 1) (view (x .held) (r .time .ordinates) work′) (closed q stand .results)
       more = rw (blocks-by (r .phase) (timeIs (r .time)) (formOf (r .free)) (blockIs r cards′) stand, well (Open next) found lw lo lr none .held-is)

@@ -3,31 +3,16 @@ use borrow.Author.Needs.{needs}
 use Rattle.walking.proofs.end_deck.Statement.{statement}
 use Rattle.walking.proofs.end_deck.Tie as tie
 
-stop-requires : tie.Need-stop-requires
-stop-requires c κs = search needs
-
 returns : tie.Need-returns
 returns c =
     let some = c .before .if1 .taken in
     record { refused = λ h. c .stop .ensures; not-one = λ z h. absurd (some z); done = λ z one. absurd (some z) }
-
-stop-requires-2 : tie.Need-stop-requires-2
-stop-requires-2 c κs = search needs
 
 returns-2 : tie.Need-returns-2
 returns-2 c =
     let none = c .before .before .before .before .if1 .left in
     let other = c .before .if2 .taken in
     record { refused = λ h. absurd (h none); not-one = λ z h. c .stop2 .ensures; done = λ z one. absurd (other one) }
-
-copy-if-last-requires : tie.Need-copy-if-last-requires
-copy-if-last-requires c κs = search needs
-
-finish-requires : tie.Need-finish-requires
-finish-requires c κs = search needs
-
-same-length : tie.Need-same-length
-same-length c = search needs
 
 returns-3 : tie.Need-returns-3
 returns-3 c =
@@ -37,4 +22,14 @@ returns-3 c =
     record { refused = λ h. absurd (h none); not-one = λ z h. absurd (h one); done = λ z e. (end .0, end .1, c .before .before .before .copy-if-last .ensures) }
 
 pub end-deck-spec : {M : Type 1} → statement M
-end-deck-spec = tie.close (tie.spec stop-requires returns stop-requires-2 returns-2 copy-if-last-requires finish-requires same-length returns-3)
+end-deck-spec =
+    tie.close
+    (tie.spec
+    (λ c κs. search needs)
+    returns
+    (λ c κs. search needs)
+    returns-2
+    (λ c κs. search needs)
+    (λ c κs. search needs)
+    (λ c. search needs)
+    returns-3)

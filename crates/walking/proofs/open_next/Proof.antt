@@ -4,16 +4,10 @@ use borrow.Author.Needs.{needs}
 use Rattle.walking.proofs.open_next.Statement.{statement}
 use Rattle.walking.proofs.open_next.Tie as tie
 
-stop-requires : tie.Need-stop-requires
-stop-requires c κs = search needs
-
 returns : tie.Need-returns
 returns c =
     let some = c .before .if1 .taken in
     record { refused = λ h. c .stop .ensures; many = λ z h. absurd (some z); goes = λ z few. absurd (some z) }
-
-stop-requires-2 : tie.Need-stop-requires-2
-stop-requires-2 c κs = search needs
 
 returns-2 : tie.Need-returns-2
 returns-2 c =
@@ -21,14 +15,20 @@ returns-2 c =
     let full = c .before .if2 .taken in
     record { refused = λ h. absurd (h none); many = λ z h. c .stop2 .ensures; goes = λ z few. absurd (omega arith) }
 
-go-on-requires : tie.Need-go-on-requires
-go-on-requires c κs = search needs
-
 returns-3 : tie.Need-returns-3
 returns-3 c =
-    let none = c .before .before .before .if1 .left in
-    let room = c .before .before .if2 .left in
-    record { refused = λ h. absurd (h none); many = λ z h. absurd (omega arith); goes = λ z few. c .go-on .ensures }
+    let none = c .before .before .before .before .before .before .if1 .left in
+    let room = c .before .before .before .before .before .if2 .left in
+    record { refused = λ h. absurd (h none); many = λ z h. absurd (omega arith); goes = λ z few. c .before .before .go-on .ensures }
 
 pub open-next-spec : {M : Type 1} → statement M
-open-next-spec = tie.close (tie.spec stop-requires returns stop-requires-2 returns-2 go-on-requires returns-3)
+open-next-spec =
+    tie.close
+    (tie.spec
+    (λ c κs. search needs)
+    returns
+    (λ c κs. search needs)
+    returns-2
+    (λ c κs. search needs)
+    (λ c. search needs)
+    returns-3)
