@@ -26,17 +26,20 @@ use Rattle.closing.proofs.close_block.Tie as tie
 abbrev own : tie.Start → List ℕ → Held
 own s name = let x = s .args in heldFor (timeIs (x .time)) (blockOf name (x .cards .now)) (view (x .held) (x .time .ordinates) (x .work .now))
 
+abbrev entry : tie.After-make → tie.Start
+entry c = c .before .before .before .before .before .before .before
+
 -- where the block is made, its shape is not refused,
-unrefused : (c : tie.After-make) (name : List ℕ) → let x = c .before .before .before .before .before .before .before .args in
+unrefused : (c : tie.After-make) (name : List ℕ) → let x = entry c .args in
     shapeRefusal (timeIs (x .time)) (blockOf name (x .cards .now)) (x .held .depth) ≡ 0
 unrefused c name = sym (c .before .before .before .before .shape-of .ensures name .number) ∙ c .before .before .if1 .left
 
 -- and it is the last held
-last : (c : tie.After-make) (name : List ℕ) → let s = c .before .before .before .before .before .before .before in Last (c .make .result) (s .args .time .ordinates) (c .make .last .0) (own s name)
-last c name = let x = c .before .before .before .before .before .before .before .args in made-last (timeIs (x .time)) (blockOf name (x .cards .now)) (x .held) (x .work .now) (unrefused c name) _ _ (c .make .ensures name)
+last : (c : tie.After-make) (name : List ℕ) → let s = entry c in Last (c .make .result) (s .args .time .ordinates) (c .make .last .0) (own s name)
+last c name = let x = entry c .args in made-last (timeIs (x .time)) (blockOf name (x .cards .now)) (x .held) (x .work .now) (unrefused c name) _ _ (c .make .ensures name)
 
 deep : (c : tie.After-make) → c .make .result .depth ≤ 20
-deep c = let x = c .before .before .before .before .before .before .before .args in made-deep (timeIs (x .time)) (blockOf [] (x .cards .now)) (x .held) (x .work .now) (unrefused c []) _ _ (c .make .ensures [])
+deep c = let x = entry c .args in made-deep (timeIs (x .time)) (blockOf [] (x .cards .now)) (x .held) (x .work .now) (unrefused c []) _ _ (c .make .ensures [])
 
 returns : tie.Need-returns
 returns c = λ name.
@@ -52,32 +55,33 @@ make-requires c κs =
 summarize-last-requires : tie.Need-summarize-last-requires
 summarize-last-requires c κs =
     let q = c .before .before .before in
-    let s = q .before .before .before .before .before .before .before in
+    let s = entry q in
     let x = s .args in
     let b = blockOf [] (x .cards .now) in
     let read = s .pre .1 in
     let few = values-few UI [] (x .cards .now) (omega arith) (read .words .long) in
-    let up = made-within (timeIs (x .time)) b (x .held) (x .work .now) (unrefused q []) _ _ (q .make .ensures []) (read .cards) (block-long [] (x .cards .now)) few (read .time) (s .pre .0 .flows) in
+    let up = made-within (timeIs (x .time)) b (x .held) (x .work .now) (unrefused q []) _ _ (q .make .ensures []) in
     let long : length (q .make .last .0) ≡ length (x .work .now) = q .make .kept .0 in
-    let fits : Fits (q .make .result .depth) (x .time .ordinates) (length (q .make .last .0)) = record { deep = deep q; ordinates = s .pre .0 .fits .ordinates; enough = omega arith } in
-    ((omega (arith, last q [] .some), fits), up)
+    let fits : Fits (q .make .result .depth) (x .time .ordinates) (length (q .make .last .0)) =
+    record { deep = deep q; ordinates = s .pre .0 .fits .ordinates; enough = omega arith } in
+    ((omega (arith, last q [] .some), fits), up (read .cards) (block-long [] (x .cards .now)) few (read .time) (s .pre .0 .flows))
 
 -- its summary is that of its own hydrograph, and so is its peak
-summed : (c : tie.After-summarize-last) (name : List ℕ) → c .summarize-last .result ≡ summaryOf (own (c .before .before .before .before .before .before .before .before .before .before .before) name .flow)
+summed : (c : tie.After-summarize-last) (name : List ℕ) → c .summarize-last .result ≡ summaryOf (own (entry (c .before .before .before .before)) name .flow)
 summed c name = c .summarize-last .ensures ∙ ap summaryOf (last (c .before .before .before .before) name .flow)
 
-peak : (c : tie.After-summarize-last) (name : List ℕ) → c .summarize-last .result .peak ≡ peakOf (own (c .before .before .before .before .before .before .before .before .before .before .before) name .flow)
+peak : (c : tie.After-summarize-last) (name : List ℕ) → c .summarize-last .result .peak ≡ peakOf (own (entry (c .before .before .before .before)) name .flow)
 peak c name = ap (λ (s : Summary). s .peak) (summed c name)
 
 returns-2 : tie.Need-returns-2
 returns-2 c = λ name.
     let q = c .before .before .before in
-    let s = q .before .before .before .before .before .before .before .before .before .before .before in
+    let m = q .before .before .before .before in
+    let s = entry m in
     let x = s .args in
     let τ = timeIs (x .time) in
     let b = blockOf name (x .cards .now) in
     let high : flowLimit < peakOf (own s name .flow) = omega (arith, c .before .if2 .taken, peak q name) in
-    let m = q .before .before .before .before in
     closes-by-flow τ b (x .held) (x .work .now) (unrefused m name) _ _ (m .make .ensures name) high (c .refuse2 .ensures)
 
 last-area-requires : tie.Need-last-area-requires
@@ -86,11 +90,11 @@ last-area-requires c κs = let q = c .before .before .before .before .before .be
 returns-3 : tie.Need-returns-3
 returns-3 c = λ name.
     let q = c .before .before .before .before in
-    let s = q .before .before .before .before .before .before .before .before .before .before .before in
+    let m = q .before .before .before .before in
+    let s = entry m in
     let x = s .args in
     let τ = timeIs (x .time) in
     let b = blockOf name (x .cards .now) in
-    let m = q .before .before .before .before in
     let low : peakOf (own s name .flow) ≤ flowLimit = omega (arith, c .before .before .if2 .left, peak q name) in
     let kind = c .number-of .ensures ∙ ap kindNumber (m .before .before .before .before .shape-of .ensures name .kind) in
     closes-held τ b (x .held) (x .work .now) (unrefused m name) _ _ (m .make .ensures name) (s .pre .1 .cards) (s .pre .0 .flows) kind
