@@ -1,12 +1,11 @@
 -- What a block of each kind that was read and is not refused gives to the functions of water.
 use Prim.Native.Nat.{ℕ, _+_, _≤_}
 use mathlib.Core.Path.{_≡_, refl, ap, _∙_}
-use mathlib.Core.List.{List}
 use native.Mathlib.Omega.{arith}
 use lib.ListN.{length}
 use Rattle.meaning.specs.Words.{if_then_else_}
 use Rattle.meaning.specs.Records.{PI, UI, HC, table}
-use Rattle.meaning.specs.Blocks.{Time, Block, Kind, Confluence, kindOf, takesBy, combined, rainValues, unitOrdinates}
+use Rattle.meaning.specs.Blocks.{Time, Block, Kind, Confluence, takesBy, combined, rainValues, unitOrdinates}
 use Rattle.limits.specs.Within.{TimeWithin}
 use Rattle.blocks.specs.Kinds.{kind-must}
 use Rattle.excess.specs.declared.Loss.{Loss}

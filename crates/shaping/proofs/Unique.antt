@@ -1,5 +1,5 @@
 -- Two answers that meet a contract of this crate, as its `ensures` line has it, are equal.
-use mathlib.Core.Path.{_≡_, sym, ap, _∙_}
+use mathlib.Core.Path.{_≡_, sym, _∙_}
 use mathlib.Core.List.{[]}
 use Rattle.sequences.specs.Contracts.{Once}
 use Rattle.blocks.specs.Kinds.{kind-told}

@@ -1,12 +1,8 @@
 -- What is asked of the time control and of the cards that were read: they are within the limits of the table of records.
 use Prim.Native.Nat.{ℕ}
-use mathlib.Core.Path.{_≡_, refl}
-use mathlib.Core.Bool.{true}
 use mathlib.Core.List.{List, []}
-use lib.ListN.{length}
-use native.Mathlib.Omega.{arith}
 use Rattle.meaning.specs.Records.{Item, RM, table, rowOf}
-use Rattle.meaning.specs.Blocks.{Time, Block, cardOf, isGiven, reachSteps, reachK, reachX}
+use Rattle.meaning.specs.Blocks.{Time, Block, cardOf, reachSteps, reachK, reachX}
 use Rattle.limits.specs.Within.{TimeWithin, CardWithin}
 use Rattle.blocks.specs.Cards.{blockOf, Readable}
 use Rattle.routing.specs.Soundness.{Small}

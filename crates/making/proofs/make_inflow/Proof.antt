@@ -1,12 +1,12 @@
 -- `making::make_inflow` meets its contract: the flows that the block lists are held, by what `hold_inflow` promises.
-use mathlib.Core.Path.{_≡_, refl, sym, ap, _∙_}
+use mathlib.Core.Path.{refl, sym, ap, _∙_}
 use Prim.Native.Nat.{ℕ}
 use mathlib.Core.List.{List, []}
 use native.Mathlib.Omega.{arith}
 use lib.ListN.{getD}
 use borrow.Author.Needs.{needs}
 use Rattle.meaning.specs.Records.{QI}
-use Rattle.meaning.specs.Blocks.{Inflow, inflowValues}
+use Rattle.meaning.specs.Blocks.{Inflow}
 use Rattle.blocks.specs.Meant.{timeIs}
 use Rattle.blocks.specs.Cards.{blockOf}
 use Rattle.stack.specs.View.{view}

@@ -1,7 +1,7 @@
 -- `shaping::shape_of` meets its contract: the refusals look at the numbers of the block's own kind.
 use Prim.Native.Nat.{ℕ}
 use mathlib.Core.Path.{_≡_, sym, _∙_}
-use mathlib.Core.List.{List, []}
+use mathlib.Core.List.{List}
 use native.Mathlib.Omega.{arith}
 use borrow.Author.Needs.{needs}
 use Rattle.meaning.specs.Run.{shapeRefusal}

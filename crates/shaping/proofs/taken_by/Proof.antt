@@ -1,5 +1,4 @@
 -- `shaping::taken_by` meets its contract: arm by arm.
-use mathlib.Core.Path.{_∙_}
 use native.Mathlib.Omega.{arith}
 use borrow.Author.Needs.{needs}
 use Rattle.shaping.proofs.taken_by.Statement.{statement}
