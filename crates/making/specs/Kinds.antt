@@ -9,6 +9,7 @@ use Rattle.meaning.specs.Blocks.{Time, Block, Kind, Confluence, takesBy, combin
 use Rattle.limits.specs.Within.{TimeWithin}
 use Rattle.blocks.specs.Kinds.{kind-must}
 use Rattle.excess.specs.declared.Loss.{Loss}
+use Rattle.routing.specs.Soundness.{Reach}
 use Rattle.runoff.specs.Storm.{Storm}
 use Rattle.stack.specs.View.{Fits}
 use Rattle.stack.specs.Limits.{Added}
@@ -34,3 +35,7 @@ pub loss-is : (l : Loss) (initial uniform : ℕ) → l .initial .0 ≡ initial �
 loss-is l initial uniform p q =
     ap (λ (x : ℕ). record { initial = record { 0 = x }; uniform = l .uniform }) p
     ∙ ap (λ (y : ℕ). record { initial = record { 0 = initial }; uniform = record { 0 = y } }) q
+
+-- numbers that are a reach's own
+pub same-reach : {n k x : ℕ} {m : ℕ} → Reach n m k x → (n′ k′ x′ : ℕ) → n′ ≡ n → k′ ≡ k → x′ ≡ x → Reach n′ m k′ x′
+same-reach r n′ k′ x′ p q s = rw (p, q, s) r

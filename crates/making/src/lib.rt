@@ -77,17 +77,15 @@ fn make_reach(work: &mut [u64], held: Stack, time: Time, cards: &[u64]) -> Stack
     requires { ⌜ ((name : List ℕ) → Shaped Reach (timeIs time) (blockOf name (now cards)) (held .depth)) ⌝ }
     ensures { λ r. ⌜ ((name : List ℕ) → Makes (timeIs time) (blockOf name (now (cards .entry))) held (now (work .entry)) r (now (work .exit))) ⌝ }
 {
-    let steps = blocks::value_at(cards, records::RM, 0);
-    let travel = blocks::value_at(cards, records::RM, 1);
-    let weight = blocks::value_at(cards, records::RM, 2);
+    let reach = shaping::reach_of(cards);
     stack::route_last(
         work,
         held,
         time.ordinates,
-        steps,
+        reach.steps,
         time.minutes,
-        travel,
-        weight,
+        reach.k,
+        reach.x,
     );
     held
 }

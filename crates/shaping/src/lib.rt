@@ -2,7 +2,7 @@
 ghost use mathlib.Core.Path.{_≡_};
 ghost use mathlib.Core.List.{List};
 ghost use Prim.Native.Nat.{ℕ};
-ghost use Rattle.meaning.specs.Blocks.{Reach, kindNumber, takesBy, brokenBy};
+ghost use Rattle.meaning.specs.Blocks.{Reach, kindNumber, takesBy, brokenBy, reachSteps, reachK, reachX};
 ghost use Rattle.blocks.specs.Meant.{timeIs};
 ghost use Rattle.blocks.specs.Cards.{blockOf, Readable};
 ghost use Rattle.blocks.specs.Kinds.{kindMeant};
@@ -46,15 +46,30 @@ fn taken_by(kind: Kind, cards: &[u64]) -> usize
     }
 }
 
+// The numbers of a reach: its steps, and K and X in hundredths.
+pub struct ReachNumbers {
+    pub steps: u64,
+    pub k: u64,
+    pub x: u64,
+}
+
+pub fn reach_of(cards: &[u64]) -> ReachNumbers
+    requires { ⌜ Readable (now cards) ⌝ }
+    ensures { λ r. ⌜ ((name : List ℕ) → (r .steps ≡ reachSteps (blockOf name (now (cards .entry)))) × (r .k ≡ reachK (blockOf name (now (cards .entry)))) × (r .x ≡ reachX (blockOf name (now (cards .entry))))) ⌝ }
+{
+    let steps = blocks::value_at(cards, records::RM, 0);
+    let k = blocks::value_at(cards, records::RM, 1);
+    let x = blocks::value_at(cards, records::RM, 2);
+    ReachNumbers { steps, k, x }
+}
+
 // Whether a reach has its coefficients out of order.
 fn is_out_of_order(time: Time, cards: &[u64]) -> bool
     requires { ⌜ Read (timeIs time) (now cards) ⌝ }
     ensures { λ r. ⌜ ((name : List ℕ) → r ≡ brokenBy Reach (timeIs time) (blockOf name (now (cards .entry)))) ⌝ }
 {
-    let steps = blocks::value_at(cards, records::RM, 0);
-    let travel = blocks::value_at(cards, records::RM, 1);
-    let weight = blocks::value_at(cards, records::RM, 2);
-    routing::is_unroutable(steps, time.minutes, travel, weight)
+    let reach = reach_of(cards);
+    routing::is_unroutable(reach.steps, time.minutes, reach.k, reach.x)
 }
 
 // Whether a block of the kind has values that do not go together.
