@@ -12,7 +12,7 @@ use Rattle.meaning.specs.Run as run
 use Rattle.meaning.specs.Run.{Outcome, Lent, refused, accepted, noRoom, outcome}
 use Rattle.engine.specs.declared.Answer.{Answer}
 use Rattle.engine.specs.declared.Answer.the-variants as answer
-use Rattle.walking.specs.Standing.{DoneIs}
+use Rattle.walking.specs.Going.{DoneIs}
 use Rattle.engine.specs.Outcomes.{short-lent, all-room}
 
 abbrev pub answerIs : Answer → run.Answer
