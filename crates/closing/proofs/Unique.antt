@@ -16,5 +16,6 @@ one-close-block κs a x y e f p q = (p [] .answer ∙ sym (q [] .answer), p [] .
 pub one-copy-last : Once copy-last.ps copy-last.r copy-last-says.Post (λ κs x y e f. now (e .0) ≡ now (f .0))
 one-copy-last κs a x y e f p q = cc
 
-pub one-write-result : Once write-result.ps write-result.r write-result-says.Post (λ κs x y e f. (now (e .1 .1 .1 .1 .1 .1 .0) ≡ now (f .1 .1 .1 .1 .1 .1 .0)) × (now (e .1 .1 .1 .1 .1 .1 .1 .0) ≡ now (f .1 .1 .1 .1 .1 .1 .1 .0)))
+pub one-write-result : Once write-result.ps write-result.r write-result-says.Post
+    (λ κs x y e f. (now (e .1 .1 .1 .1 .1 .1 .0) ≡ now (f .1 .1 .1 .1 .1 .1 .0)) × (now (e .1 .1 .1 .1 .1 .1 .1 .0) ≡ now (f .1 .1 .1 .1 .1 .1 .1 .0)))
 one-write-result κs a x y e f p q = (p .0 ∙ sym (q .0), p .1 ∙ sym (q .1))

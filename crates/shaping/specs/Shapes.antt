@@ -8,6 +8,7 @@ use mathlib.Core.Bool.{Bool, true, false}
 use native.Mathlib.Omega.{arith}
 use borrow.Author.Tests.{ltb-false, leb-false}
 use lib.ListN.{length}
+use Rattle.sequences.specs.Refusals.{neither-met, not-met}
 use Rattle.meaning.specs.Words.{_=?_, _≤?_, _<?_, if_then_else_, met, first}
 use Rattle.meaning.specs.Water.{coefA, coefB, coefC}
 use Rattle.meaning.specs.Records.{RM, table}
@@ -53,22 +54,14 @@ kept-after zero b held some = absurd (some refl)
 kept-after (suc n) b held some = refl
 
 module _ (τ : Time) (b : Block) (held : ℕ) (kind : Kind) (e : kindMeant kind ≡ kindOf b) where
-  pub shape-refused : (n : ℕ) → n ≡ shapeRefusal τ b held → (n ≡ 0 → ⊥) → ShapeIs τ b held (record { refusal = n; kind = kind; after = held })
-  shape-refused n h some = record { number = h; kind = e; after = kept-after n b held some }
+  pub shape-refused : (n after : ℕ) → n ≡ shapeRefusal τ b held → (n ≡ 0 → ⊥) → after ≡ held → ShapeIs τ b held (record { refusal = n; kind = kind; after = after })
+  shape-refused n after h some a = record { number = h; kind = e; after = a ∙ kept-after n b held some }
 
   pub shape-sound : (after : ℕ) → 0 ≡ shapeRefusal τ b held → after ≡ held - takesBy (kindMeant kind) b + 1
       → ShapeIs τ b held (record { refusal = 0; kind = kind; after = after })
   shape-sound after h a = record { number = h; kind = e; after = a ∙ ap (λ (n : ℕ). held - n + 1) (sym (takes-by b (sym e))) }
 
 -- NOT REFUSED
-first-none : (m n : ℕ) → first m n ≡ 0 → (m ≡ 0) × (n ≡ 0)
-first-none zero n e = (refl, e)
-first-none (suc m) n e = absurd (omega arith)
-
-met-none : (t : Bool) (n : ℕ) → met t (suc n) ≡ 0 → t ≡ false
-met-none true n e = absurd (omega arith)
-met-none false n e = refl
-
 pub record Passes (taken held : ℕ) (isBroken : Bool) : Type 0 where
   pub enough : taken ≤ held
   pub room : held - taken < 20
@@ -76,12 +69,12 @@ pub record Passes (taken held : ℕ) (isBroken : Bool) : Type 0 where
 
 pub passes : (number taken held : ℕ) (isBroken : Bool) → refusalBy number taken held isBroken ≡ 0 → Passes taken held isBroken
 passes number taken held isBroken e =
-    let f = first-none (met (held <? taken) 10) _ (first-none (met (number =? 0) 9) _ e .1) in
-    let g = first-none (met (20 ≤? (held - taken)) 11) _ (f .1) in
+    let f = neither-met (met (held <? taken) 10) _ (neither-met (met (number =? 0) 9) _ e .1) in
+    let g = neither-met (met (20 ≤? (held - taken)) 11) _ (f .1) in
     record {
-      enough = ltb-false held taken (met-none (held <? taken) 9 (f .0));
-      room = leb-false 20 (held - taken) (met-none (20 ≤? (held - taken)) 10 (g .0));
-      whole = met-none isBroken 11 (g .1);
+      enough = ltb-false held taken (not-met (held <? taken) 9 (f .0));
+      room = leb-false 20 (held - taken) (not-met (20 ≤? (held - taken)) 10 (g .0));
+      whole = not-met isBroken 11 (g .1);
     }
 
 pub record Shaped (k : blocks.Kind) (τ : Time) (b : Block) (held : ℕ) : Type 0 where

@@ -5,4 +5,3 @@ pub mod View
 pub mod Joining
 pub mod Limits
 pub mod Kinds
-pub mod Unique

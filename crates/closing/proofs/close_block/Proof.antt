@@ -7,7 +7,7 @@ use borrow.Author.Needs.{needs}
 use lib.ListN.{length}
 use Rattle.meaning.specs.Water.{flowLimit}
 use Rattle.meaning.specs.Records.{UI}
-use Rattle.meaning.specs.Blocks.{kindNumber}
+use Rattle.meaning.specs.Blocks.{Held, kindNumber}
 use Rattle.meaning.specs.Results.{peakOf}
 use Rattle.meaning.specs.Run.{heldFor, shapeRefusal}
 use Rattle.blocks.specs.Meant.{timeIs}
@@ -22,22 +22,21 @@ use Rattle.closing.specs.ClosedBlock.{closes-by-shape, made-last, made-d
 use Rattle.closing.proofs.close_block.Statement.{statement}
 use Rattle.closing.proofs.close_block.Tie as tie
 
+-- what is held for the block
+abbrev own : tie.Start → List ℕ → Held
+own s name = let x = s .args in heldFor (timeIs (x .time)) (blockOf name (x .cards .now)) (view (x .held) (x .time .ordinates) (x .work .now))
+
 -- where the block is made, its shape is not refused,
-unrefused : (c : tie.After-make) (name : List ℕ) → let x = c .before .before .before .before .before .before .before .args in shapeRefusal (timeIs (x .time)) (blockOf name (x .cards .now)) (x .held .depth) ≡ 0
+unrefused : (c : tie.After-make) (name : List ℕ) → let x = c .before .before .before .before .before .before .before .args in
+    shapeRefusal (timeIs (x .time)) (blockOf name (x .cards .now)) (x .held .depth) ≡ 0
 unrefused c name = sym (c .before .before .before .before .shape-of .ensures name .number) ∙ c .before .before .if1 .left
 
 -- and it is the last held
-last : (c : tie.After-make) (name : List ℕ) → let x = c .before .before .before .before .before .before .before .args in
-    Last (c .make .result) (x .time .ordinates) (c .make .last .0) (heldFor (timeIs (x .time)) (blockOf name (x .cards .now)) (view (x .held) (x .time .ordinates) (x .work .now)))
+last : (c : tie.After-make) (name : List ℕ) → let s = c .before .before .before .before .before .before .before in Last (c .make .result) (s .args .time .ordinates) (c .make .last .0) (own s name)
 last c name = let x = c .before .before .before .before .before .before .before .args in made-last (timeIs (x .time)) (blockOf name (x .cards .now)) (x .held) (x .work .now) (unrefused c name) _ _ (c .make .ensures name)
 
 deep : (c : tie.After-make) → c .make .result .depth ≤ 20
 deep c = let x = c .before .before .before .before .before .before .before .args in made-deep (timeIs (x .time)) (blockOf [] (x .cards .now)) (x .held) (x .work .now) (unrefused c []) _ _ (c .make .ensures [])
-
--- its summary is that of its own hydrograph
-summed : (c : tie.After-summarize-last) (name : List ℕ) → let x = c .before .before .before .before .before .before .before .before .before .before .before .args in
-    c .summarize-last .result ≡ summaryOf (heldFor (timeIs (x .time)) (blockOf name (x .cards .now)) (view (x .held) (x .time .ordinates) (x .work .now)) .flow)
-summed c name = c .summarize-last .ensures ∙ ap summaryOf (last (c .before .before .before .before) name .flow)
 
 returns : tie.Need-returns
 returns c = λ name.
@@ -63,13 +62,21 @@ summarize-last-requires c κs =
     let fits : Fits (q .make .result .depth) (x .time .ordinates) (length (q .make .last .0)) = record { deep = deep q; ordinates = s .pre .0 .fits .ordinates; enough = omega arith } in
     ((omega (arith, last q [] .some), fits), up)
 
+-- its summary is that of its own hydrograph, and so is its peak
+summed : (c : tie.After-summarize-last) (name : List ℕ) → c .summarize-last .result ≡ summaryOf (own (c .before .before .before .before .before .before .before .before .before .before .before) name .flow)
+summed c name = c .summarize-last .ensures ∙ ap summaryOf (last (c .before .before .before .before) name .flow)
+
+peak : (c : tie.After-summarize-last) (name : List ℕ) → c .summarize-last .result .peak ≡ peakOf (own (c .before .before .before .before .before .before .before .before .before .before .before) name .flow)
+peak c name = ap (λ (s : Summary). s .peak) (summed c name)
+
 returns-2 : tie.Need-returns-2
 returns-2 c = λ name.
     let q = c .before .before .before in
-    let x = q .before .before .before .before .before .before .before .before .before .before .before .args in
+    let s = q .before .before .before .before .before .before .before .before .before .before .before in
+    let x = s .args in
     let τ = timeIs (x .time) in
     let b = blockOf name (x .cards .now) in
-    let high : flowLimit < peakOf (heldFor τ b (view (x .held) (x .time .ordinates) (x .work .now)) .flow) = omega (arith, c .before .if2 .taken, ap (λ (s : Summary). s .peak) (summed q name)) in
+    let high : flowLimit < peakOf (own s name .flow) = omega (arith, c .before .if2 .taken, peak q name) in
     let m = q .before .before .before .before in
     closes-by-flow τ b (x .held) (x .work .now) (unrefused m name) _ _ (m .make .ensures name) high (c .refuse2 .ensures)
 
@@ -84,7 +91,7 @@ returns-3 c = λ name.
     let τ = timeIs (x .time) in
     let b = blockOf name (x .cards .now) in
     let m = q .before .before .before .before in
-    let low : peakOf (heldFor τ b (view (x .held) (x .time .ordinates) (x .work .now)) .flow) ≤ flowLimit = omega (arith, c .before .before .if2 .left, ap (λ (s : Summary). s .peak) (summed q name)) in
+    let low : peakOf (own s name .flow) ≤ flowLimit = omega (arith, c .before .before .if2 .left, peak q name) in
     let kind = c .number-of .ensures ∙ ap kindNumber (m .before .before .before .before .shape-of .ensures name .kind) in
     closes-held τ b (x .held) (x .work .now) (unrefused m name) _ _ (m .make .ensures name) (s .pre .1 .cards) (s .pre .0 .flows) kind
     (c .before .last-area .ensures ∙ last m name .area) (summed q name) low

@@ -1,6 +1,9 @@
 -- `making::make_inflow` meets its contract: the flows that the block lists are held, by what `hold_inflow` promises.
-use mathlib.Core.Path.{_≡_, refl, sym, _∙_}
-use mathlib.Core.List.{[]}
+use mathlib.Core.Path.{_≡_, refl, sym, ap, _∙_}
+use Prim.Native.Nat.{ℕ}
+use mathlib.Core.List.{List, []}
+use native.Mathlib.Omega.{arith}
+use lib.ListN.{getD}
 use borrow.Author.Needs.{needs}
 use Rattle.meaning.specs.Records.{QI}
 use Rattle.meaning.specs.Blocks.{Inflow, inflowValues}
@@ -18,7 +21,7 @@ hold-inflow-requires c κs =
     let s = c .before .before .before .before .before in
     let x = s .args in
     let b = blockOf [] (x .cards .now) in
-    (room-for-one {k = Inflow} (timeIs (x .time)) b _ _ refl (s .pre .1 .1 []) (s .pre .0 .fits), rw (c .before .values .ensures []) (s .pre .1 .0 .cards QI .high))
+    (room-for-one {k = Inflow} (timeIs (x .time)) b _ _ refl (s .pre .1 .1 []) (s .pre .0 .fits), λ (k : ℕ). omega (arith, ap (λ (q : List ℕ). getD q k 0) (c .before .values .ensures []), s .pre .1 .0 .cards QI .high k))
 
 returns : tie.Need-returns
 returns c = λ name.

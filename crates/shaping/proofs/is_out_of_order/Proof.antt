@@ -1,8 +1,9 @@
 -- `shaping::is_out_of_order` meets its contract: RM's values are within their limits.
-use mathlib.Core.Path.{_∙_}
+use mathlib.Core.Path.{_≡_, _∙_}
 use mathlib.Core.List.{[]}
 use native.Mathlib.Omega.{arith}
 use borrow.Author.Needs.{needs}
+use Rattle.meaning.specs.Blocks.{reachSteps, reachK, reachX}
 use Rattle.blocks.specs.Meant.{timeIs}
 use Rattle.blocks.specs.Cards.{blockOf}
 use Rattle.shaping.specs.Limits.{reach-small}
@@ -16,7 +17,12 @@ is-unroutable-requires c κs =
     omega (arith, small, c .before .before .value-at .ensures [], c .before .value-at2 .ensures [], c .value-at3 .ensures [])
 
 returns : tie.Need-returns
-returns c = λ name. c .is-unroutable .ensures ∙ rw (c .before .before .before .value-at .ensures name, c .before .before .value-at2 .ensures name, c .before .value-at3 .ensures name)
+returns c = λ name.
+    let b = blockOf name (c .before .before .before .before .before .args .cards .now) in
+    let steps : c .before .before .before .value-at .result ≡ reachSteps b = omega (arith, c .before .before .before .value-at .ensures name) in
+    let travel : c .before .before .value-at2 .result ≡ reachK b = omega (arith, c .before .before .value-at2 .ensures name) in
+    let weight : c .before .value-at3 .result ≡ reachX b = omega (arith, c .before .value-at3 .ensures name) in
+    c .is-unroutable .ensures ∙ rw (steps, travel, weight)
 
 pub is-out-of-order-spec : {M : Type 1} → statement M
 is-out-of-order-spec = tie.close (tie.spec (λ c κs. search needs) (λ c κs. search needs) (λ c κs. search needs) is-unroutable-requires returns)

@@ -25,7 +25,7 @@ let-through : (c : tie.After-refusal-by) → c .refusal-by .result ≡ 0
 let-through c none = passes (c .before .number-of .result) _ _ _ (sym (c .refusal-by .ensures) ∙ none)
 
 returns : tie.Need-returns
-returns c = λ name. shape-refused _ _ _ _ (c .before .before .before .before .before .kind-of .ensures name) _ (refusal (c .before) name) (c .if1 .taken)
+returns c = λ name. shape-refused _ _ _ _ (c .before .before .before .before .before .kind-of .ensures name) _ _ (refusal (c .before) name) (c .if1 .taken) (omega arith)
 
 returns-2 : tie.Need-returns-2
 returns-2 c = λ name.

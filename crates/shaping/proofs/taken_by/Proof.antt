@@ -1,5 +1,6 @@
 -- `shaping::taken_by` meets its contract: arm by arm.
 use mathlib.Core.Path.{_∙_}
+use native.Mathlib.Omega.{arith}
 use borrow.Author.Needs.{needs}
 use Rattle.shaping.proofs.taken_by.Statement.{statement}
 use Rattle.shaping.proofs.taken_by.Tie as tie
@@ -18,4 +19,4 @@ taken-by-spec =
     (λ c. λ name. rw (c .enum-told2 .given .1))
     (λ c. λ name. rw (c .enum-told3 .given .1))
     (λ c. λ name. rw (c .before .enum-told4 .given .1) (c .value-at .ensures name))
-    (λ c. λ name. rw (c .enum-told5 .given .1)))
+    (λ c. λ name. rw (c .enum-told5 .given .1) (omega arith)))
