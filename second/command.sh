@@ -1,12 +1,13 @@
 #!/bin/sh
-# command.sh
+# command.sh [--program PROGRAM]
 # Tests the command ./hec1: listings, words of refusals, exit status, odd names, standard input, several files,
-# bundles, and how it builds the program; every transcript of docs/USERS.md; every deck of examples/ against the
-# listing beside it. The last line is 'N passed, M failed', and the exit status agrees.
+# bundles, input and output that fail, and how it builds the program; every transcript of docs/USERS.md; every deck
+# of examples/ against the listing beside it. The last line is 'N passed, M failed', and the exit status agrees.
 #
-# The proved program is used where crates/hec1 and crates/bundle are there, else the second program.
+# --program, to try this script itself: a program that ./hec1 is to start in place of the proved one.
 set -u
 root=$(CDPATH="" cd -- "$(dirname -- "$0")/.." && pwd -P) || exit 2
+. "$root/second/kit.sh" || exit 2
 scratch=$(mktemp -d) || exit 2
 trap 'rm -rf "$scratch"' EXIT
 trap 'exit 1' HUP INT TERM
@@ -15,19 +16,18 @@ failed=0
 
 sh "$root/second/build.sh" || exit 2
 second=$root/target/second/hec1
-if [ -n "${HEC1_PROGRAM:-}" ]; then
-    echo "the program is $HEC1_PROGRAM"
-elif [ -d "$root/crates/hec1" ] && [ -d "$root/crates/bundle" ]; then
-    HEC1_PROGRAM=
-    echo "the program is the proved one"
-    # built here, so that no test below sees the words of a first use
-    "$root/hec1" </dev/null >/dev/null
-    "$root/hec1" --bundle </dev/null >/dev/null
+hec1=$root/hec1
+proved=yes
+if [ "${1:-}" = --program ]; then
+    proved=
+    hec1=$scratch/hec1
+    printf '#!/bin/sh\nexec "%s" --program "%s" "$@"\n' "$root/hec1" "${2:?--program wants a program}" >"$hec1"
+    chmod +x "$hec1"
 else
-    HEC1_PROGRAM=$second
-    echo "the program is the second one: the proved one is not there"
+    # built here, so that no test below sees the words of a first use
+    "$hec1" </dev/null >/dev/null
+    "$hec1" --bundle </dev/null >/dev/null || { echo "command.sh: there is no proved program" >&2; exit 2; }
 fi
-export HEC1_PROGRAM
 
 # same NAME EXPECTED GOT: two files must be equal
 same() {
@@ -75,7 +75,6 @@ bad='ID BAD\n*FREE\nIT 60,,,4\nKK A\nPI 1\nKM\nPI 25.0\nZZ\n'
 bad_list='REFUSED 7 7\n'
 bad_words=':7: value outside its limits (refusal 7): PI 25.0\n'
 open_words=': no ZZ line (refusal 16)\n'
-hec1=$root/hec1
 input ''
 printf '%b' "$good" >good.hc1
 printf '%b' "$bad" >pond.hc1
@@ -177,19 +176,44 @@ echo "REFUSED $ANSWER"
 END
 chmod +x "$scratch/answers"
 input 'ID\n'
-n=0
-while [ "$n" -lt 17 ]; do
-    n=$((n + 1))
-    ANSWER="$n 1" HEC1_PROGRAM="$scratch/answers" "$hec1" <"$scratch/in" >/dev/null 2>"$scratch/err"
+for n in $(numbers 1 "$refusals"); do
+    ANSWER="$n 1" "$root/hec1" --program "$scratch/answers" <"$scratch/in" >/dev/null 2>"$scratch/err"
     holds "words of refusal $n" grep -q "^-:1: [a-zA-Z0-9 ,]* (refusal $n): ID\$" "$scratch/err"
     holds "words of refusal $n are known" sh -c '! grep -q "does not know" "$1"' sh "$scratch/err"
 done
 printf '#!/bin/sh\nexit 3\n' >"$scratch/broken"
 chmod +x "$scratch/broken"
-HEC1_PROGRAM_SAVED=$HEC1_PROGRAM
-HEC1_PROGRAM=$scratch/broken
-try 'a program that fails' 2 '' 'hec1: -: the program ended with status 3 and gave no listing\n' "$hec1"
-HEC1_PROGRAM=$HEC1_PROGRAM_SAVED
+try 'a program that fails' 2 '' 'hec1: -: the program ended with status 3 and gave no listing\n' "$root/hec1" --program "$scratch/broken"
+
+# ---- input and output that fail
+
+# with WORDS STATUS ERR COMMAND: a shell command line on the file 'in', what it prints to standard error and its status
+with() {
+    name=$1
+    { printf 'status %s\n-- err\n%b' "$2" "$3"; } >"$scratch/expected"
+    hec1=$hec1 sh -c "$4" <"$scratch/in" >"$scratch/out" 2>"$scratch/err"
+    ended=$?
+    { printf 'status %s\n-- err\n' "$ended"; cat "$scratch/err"; } >"$scratch/got"
+    same "$name" "$scratch/expected" "$scratch/got"
+}
+input "$good"
+with 'a folder as standard input' 2 'hec1: standard input: cannot be read\n' '"$hec1" <.'
+with 'no standard input' 2 'hec1: standard input: cannot be read\n' '"$hec1" <&-'
+with 'a full device' 2 'hec1: standard output: cannot be written to\n' '"$hec1" >/dev/full'
+with 'a full device, several files' 2 'hec1: standard output: cannot be written to\n' '"$hec1" good.hc1 good.hc1 >/dev/full'
+with 'a full device, a bundle' 2 'hec1: standard output: cannot be written to\n' '"$hec1" --bundle good.hc1 >/dev/full'
+if [ -n "$proved" ]; then
+    # the proved programs by themselves: a line on standard error, and nothing that could be taken for a listing
+    find_kit || { echo "command.sh: $no_kit" >&2; exit 2; }
+    made=$root/target/command
+    by_hand="${emulator:+$emulator }$loader --library-path $tools/lib"
+    with 'hec1: a folder as standard input' 0 'INPUT FAILED\n' "$by_hand $made/hec1 <."
+    holds 'hec1: a folder as standard input: no listing' test ! -s "$scratch/out"
+    with 'hec1: a full device' 0 'OUTPUT FAILED\n' "$by_hand $made/hec1 >/dev/full"
+    with 'bundle: a folder as standard input' 0 'INPUT FAILED\n' "$by_hand $made/bundle <."
+    holds 'bundle: a folder as standard input: no listing' test ! -s "$scratch/out"
+    with 'bundle: a full device' 0 'OUTPUT FAILED\n' "$by_hand $made/bundle <'$root/crates/bundle/stdin' >/dev/full"
+fi
 
 # ---- bundles
 
@@ -202,6 +226,13 @@ try 'an empty bundle' 0 '' '' "$hec1" --bundle
 size=$(printf '%b' "$good" | wc -c)
 input "\\0$(printf %o "$size")\\0000\\0000\\0000$good\\0000\\0000\\0000\\0000"
 try 'a ready bundle' 1 "$good_list--\nREFUSED 16 0\n--\n" '' "$hec1" --bundle
+if [ -n "$proved" ]; then
+    input "\\0$(printf %o "$size")\\0000\\0000\\0000$good\\0$(printf %o "$size")\\0000\\0000\\0000*FREE\\n"
+    try 'a bundle that ends inside a deck' 2 "$good_list--\n" 'hec1: bundle: the input ends inside a deck or its length\n' "$hec1" --bundle
+    input "\\0$(printf %o "$size")\\0000\\0000\\0000$good\\0001\\0000"
+    try 'a bundle that ends inside a length' 2 "$good_list--\n" 'hec1: bundle: the input ends inside a deck or its length\n' "$hec1" --bundle
+    with 'a folder as a bundle' 2 'hec1: bundle: the input cannot be read\n' '"$hec1" --bundle <.'
+fi
 input "$good"
 try 'a bundle with standard input' 0 "$good_list--\n$good_list--\n" '' "$hec1" --bundle - good.hc1
 
@@ -260,7 +291,7 @@ same 'the guide: a chain of one step and three' "$scratch/expected" "$scratch/go
 # A block 'deck NAME' is that file. A block 'console' has commands behind '$ ' and what each prints, both outputs together.
 guide=$scratch/guide
 mkdir "$guide" "$scratch/steps" && cd "$guide" || exit 2
-ln -s "$root/hec1" hec1
+ln -s "$hec1" hec1
 ln -s "$root/target" target
 ln -s "$root/examples" examples
 awk -v steps="$scratch/steps" '
@@ -289,9 +320,7 @@ for command in "$scratch"/steps/*.command; do
     last=$?
     same "docs/USERS.md: $(cat "$command")" "$base.expected" "$base.got"
 done
-n=0
-while [ "$n" -lt 17 ]; do
-    n=$((n + 1))
+for n in $(numbers 1 "$refusals"); do
     cat "$scratch"/steps/*.got | grep -q "REFUSED $n [0-9]" || { failed=$((failed + 1)); echo "FAILED: docs/USERS.md does not provoke refusal $n"; continue; }
     passed=$((passed + 1))
 done
@@ -310,8 +339,9 @@ done <"$scratch/examples"
 
 kit=$scratch/kit
 repository="$scratch/a repository"
-mkdir -p "$kit/bin" "$kit/on/$(uname -m)/toolchain/lib" "$repository/crates/hec1/src"
+mkdir -p "$kit/bin" "$kit/on/$(uname -m)/toolchain/lib" "$repository/crates/hec1/src" "$repository/second"
 cp "$root/hec1" "$repository/"
+cp "$root/second/kit.sh" "$repository/second/"
 echo 'hec1:' >"$repository/crates.txt"
 echo '// a source' >"$repository/crates/hec1/src/main.rt"
 cat >"$kit/bin/rt" <<'END'
@@ -329,8 +359,8 @@ chmod +x "target/bin/$2"
 END
 printf '#!/bin/sh\nshift 2\nexec "$@"\n' >"$kit/on/$(uname -m)/toolchain/lib/ld-linux-x86-64.so.2"
 chmod +x "$kit/bin/rt" "$kit/on/$(uname -m)/toolchain/lib/ld-linux-x86-64.so.2"
-RUNS=$scratch/runs SECOND=$second RATTLE_HOME=$kit PATH=$kit/bin:$PATH HEC1_PROGRAM=
-export RUNS SECOND RATTLE_HOME PATH HEC1_PROGRAM
+RUNS=$scratch/runs SECOND=$second RATTLE_HOME=$kit PATH=$kit/bin:$PATH
+export RUNS SECOND RATTLE_HOME PATH
 : >"$RUNS"
 runs() { [ "$(grep -c . "$RUNS")" = "$1" ]; }
 cd "$place" || exit 2

@@ -1,14 +1,20 @@
 #!/bin/sh
-# compare.sh [SEED [BUNDLE [CASES [PAIRS]]]]
+# compare.sh [--program PROGRAM] [SEED [BUNDLE [CASES [PAIRS]]]]
 # Runs the proved programs and the second program on the same decks and compares what they print, byte by byte.
 # By default 20,000 decks of all sorts, 2,000 cases with rooms of all sizes, 2,000 pairs of decks that draw one
 # network (which must also answer as such), and a few decks, one at a time, on both sides of 60,000 bytes.
-# Fails too when a refusal from 2 to 16 is missing in the bundle, or 1 or 17 in the cases.
+# Fails too when a refusal is missing: the first or the last in the cases, any other in the bundle.
 # The last line is 'N passed, M failed', where each deck, case and pair counts as one; the exit status agrees with it.
 #
-# HEC1_PROGRAM, for tests only: a program to start in place of the proved ones (with --bundle or --cases).
+# --program, to try this script itself: a program to start in place of the proved ones (with --bundle or --cases).
 set -u
 root=$(CDPATH="" cd -- "$(dirname -- "$0")/.." && pwd -P) || exit 2
+. "$root/second/kit.sh" || exit 2
+program=
+if [ "${1:-}" = --program ]; then
+    program=${2:?--program wants a program}
+    shift 2
+fi
 seed=${1:-1}
 bundle=${2:-20000}
 cases=${3:-2000}
@@ -31,29 +37,21 @@ die() {
 sh "$root/second/build.sh" || die "the second program was not built"
 sh "$root/second/build-decks.sh" || die "the deck writer was not built"
 
-if [ -z "${HEC1_PROGRAM:-}" ]; then
-    rt=$(command -v rt 2>/dev/null) || rt=${RATTLE_HOME:+$RATTLE_HOME/bin/rt}
-    [ -n "$rt" ] || die "the Rattle kit is missing: there is no command rt"
-    rt=$(readlink -f "$rt")
-    tools=${RATTLE_HOME:-$(dirname -- "$(dirname -- "$rt")")}/on/$(uname -m)/toolchain
-    loader=$tools/lib/ld-linux-x86-64.so.2
-    emulator=$tools/bin/qemu-x86_64
-    [ -x "$emulator" ] || emulator=
-    for name in hec1 bundle rooms; do
-        [ -x "$root/target/bin/$name" ] || (cd "$root" && "$rt" check "$name") >"$work/log" 2>&1 ||
-            { tail -n 5 "$work/log" >&2; die "$name was not proved and built"; }
-    done
+if [ -z "$program" ]; then
+    find_kit || die "$no_kit"
+    (cd "$root" && "$rt" check hec1 bundle rooms) >"$work/log" 2>&1 ||
+        { tail -n 5 "$work/log" >&2; die "the programs were not proved and built"; }
 fi
 
 # proved NAME: starts a proved program; these have no exit status of their own
 proved() {
-    if [ -z "${HEC1_PROGRAM:-}" ]; then
-        ${emulator:+"$emulator"} "$loader" --library-path "$tools/lib" "$root/target/bin/$1"
+    if [ -z "$program" ]; then
+        start "$root/target/bin/$1"
     else
         case $1 in
-        bundle) "$HEC1_PROGRAM" --bundle ;;
-        rooms) "$HEC1_PROGRAM" --cases ;;
-        *) "$HEC1_PROGRAM" ;;
+        bundle) "$program" --bundle ;;
+        rooms) "$program" --cases ;;
+        *) "$program" ;;
         esac
     fi
 }
@@ -63,7 +61,7 @@ proved() {
 # compare WHAT COUNT NUMBERS: the two outputs, $work/proved and $work/second, must be the same for each of so many
 # decks, and each refusal named must occur
 compare() {
-    awk -v what="$1" -v count="$2" -v need="$3" -v other="$work/second" '
+    awk -v what="$1" -v count="$2" -v need="$3" -v last="$refusals" -v other="$work/second" '
         function report(line) { if (++said <= 5) print "    " line }
         { mine = mine $0 "\n" }
         first == "" { first = $0 == "" ? " " : $0 }
@@ -82,7 +80,7 @@ compare() {
         }
         END {
             printf "%-8s %6d  same %6d, accepted %6d\n", what, n, same, accepted
-            for (i = 1; i <= 17; i++) if (refused[i]) printf "    refusal %2d: %6d\n", i, refused[i]
+            for (i = 1; i <= last; i++) if (refused[i]) printf "    refusal %2d: %6d\n", i, refused[i]
             k = split(need, must, " ")
             for (i = 1; i <= k; i++) if (!refused[must[i]]) { print "    refusal " must[i] " is missing"; missing++ }
             if (n != count) print "    " n " answers to " count
@@ -103,7 +101,11 @@ EOF
 
 # both NAME OPTION: runs both programs on $work/decks
 both() {
-    proved "$1" <"$work/decks" >"$work/proved" || failed=$((failed + 1))
+    proved "$1" <"$work/decks" >"$work/proved" 2>"$work/said" || failed=$((failed + 1))
+    if [ -s "$work/said" ]; then
+        failed=$((failed + 1))
+        sed 's/^/    said: /' "$work/said"
+    fi
     "$second" ${2:+"$2"} <"$work/decks" >"$work/second" || failed=$((failed + 1))
 }
 
@@ -111,11 +113,11 @@ both() {
 
 "$decks" bundle "$seed" "$bundle" >"$work/decks" || die "the deck writer failed"
 both bundle --bundle
-compare bundle "$bundle" '2 3 4 5 6 7 8 9 10 11 12 13 14 15 16'
+compare bundle "$bundle" "$(numbers 2 $((refusals - 1)) | tr '\n' ' ')"
 
 "$decks" cases "$seed" "$cases" >"$work/decks" || die "the deck writer failed"
 both rooms --cases
-compare cases "$cases" '1 17'
+compare cases "$cases" "1 $refusals"
 
 "$decks" pairs "$seed" "$pairs" >"$work/decks" || die "the deck writer failed"
 both bundle --bundle

@@ -1,19 +1,25 @@
 #!/bin/sh
-# coverage.sh [SEED [BUNDLE [CASES [PAIRS]]]]
+# coverage.sh [--program PROGRAM] [SEED [BUNDLE [CASES [PAIRS]]]]
 # Writes decks, runs them through the second program and counts the answers.
-# The program is target/second/hec1, or the one that HEC1 names.
-# Fails when a refusal from 2 to 16 is missing in the bundle, when 1 or 17 is
-# missing in the cases, when a sound deck is refused, or when a pair is violated.
+# The program is target/second/hec1, built here, or the one named with --program.
+# Fails when a refusal is missing, the first or the last in the cases, any other in
+# the bundle, when a sound deck is refused, or when a pair is violated.
 set -u
 root=$(CDPATH= cd -- "$(dirname -- "$0")/.." && pwd)
+. "$root/second/kit.sh" || exit 2
+hec1=
+if [ "${1:-}" = --program ]; then
+    hec1=${2:?--program wants a program}
+    shift 2
+fi
 seed=${1:-1}
 bundle=${2:-20000}
 cases=${3:-2000}
 pairs=${4:-2000}
-hec1=${HEC1:-$root/target/second/hec1}
 decks=$root/target/second/decks
 sh "$root/second/build-decks.sh" || exit 2
-if [ ! -x "$hec1" ] && [ -f "$root/second/build.sh" ]; then
+if [ -z "$hec1" ]; then
+    hec1=$root/target/second/hec1
     sh "$root/second/build.sh" || exit 2
 fi
 if [ ! -x "$hec1" ]; then
@@ -34,7 +40,7 @@ check() {
 # count WHAT NUMBERS: counts the answers on standard input; every refusal named
 # must occur.
 count() {
-    awk -v what="$1" -v need="$2" '
+    awk -v what="$1" -v need="$2" -v last="$refusals" '
         first == "" { first = $0 == "" ? " " : $0 }
         $0 == "--" {
             if (first ~ /^REFUSED [0-9]+ [0-9]+$/) {
@@ -49,7 +55,7 @@ count() {
         END {
             printf "%-8s %7d  accepted %7d (%.1f %%)\n", what, n, accepted, n ? 100 * accepted / n : 0
             k = split(need, must, " ")
-            for (i = 1; i <= 17; i++)
+            for (i = 1; i <= last; i++)
                 if (r[i]) printf "    refusal %2d: %6d\n", i, r[i]
             for (i = 1; i <= k; i++)
                 if (!r[must[i]]) { printf "    refusal %2d is missing\n", must[i]; gap = 1 }
@@ -61,11 +67,11 @@ count() {
 
 "$decks" bundle "$seed" "$bundle" > "$work/decks"
 "$hec1" --bundle < "$work/decks" > "$work/out" || failed=$((failed + 1))
-check count bundle "2 3 4 5 6 7 8 9 10 11 12 13 14 15 16" < "$work/out"
+check count bundle "$(numbers 2 $((refusals - 1)) | tr '\n' ' ')" < "$work/out"
 
 "$decks" cases "$seed" "$cases" > "$work/decks"
 "$hec1" --cases < "$work/decks" > "$work/out" || failed=$((failed + 1))
-check count cases "1 17" < "$work/out"
+check count cases "1 $refusals" < "$work/out"
 
 "$decks" sound "$seed" "$pairs" > "$work/decks"
 "$hec1" --bundle < "$work/decks" > "$work/out" || failed=$((failed + 1))

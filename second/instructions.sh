@@ -9,6 +9,7 @@
 # instruction at a time, and each step is counted (a program without --kit must be linked statically there).
 # Each byte that a 'rep movsb' or 'rep stosb' moves counts as an instruction of its own.
 set -eu
+. "$(dirname -- "$0")/kit.sh"
 
 die() {
     echo "instructions.sh: $*" >&2
@@ -31,15 +32,11 @@ scratch=$(mktemp -d)
 trap 'rm -rf "$scratch"' EXIT
 trap 'exit 2' HUP INT TERM
 
-# tools: the kit's folder for this machine, from the place of rt
-tools=
 if [ "$kit" = yes ] || [ "$machine" != x86_64 ]; then
-    rt=$(command -v rt 2>/dev/null) || rt=${RATTLE_HOME:+$RATTLE_HOME/bin/rt}
-    [ -n "$rt" ] || die "the Rattle kit is missing: there is no command rt"
-    tools=${RATTLE_HOME:-$(dirname -- "$(dirname -- "$(readlink -f "$rt")")")}/on/$machine/toolchain
+    find_kit || die "$no_kit"
 fi
 if [ "$kit" = yes ]; then
-    set -- "$tools/lib/ld-linux-x86-64.so.2" --library-path "$tools/lib" "$@"
+    set -- "$loader" --library-path "$tools/lib" "$@"
 fi
 
 ended=0
@@ -48,8 +45,7 @@ if [ "$machine" = x86_64 ]; then
     valgrind --tool=callgrind --callgrind-out-file=/dev/null --log-file="$scratch/log" "$@" >&2 || ended=$?
     count=$(sed -n 's/.*Collected : \([0-9][0-9]*\).*/\1/p' "$scratch/log")
 else
-    emulator=$tools/bin/qemu-x86_64
-    [ -x "$emulator" ] || die "the kit has no emulator for this machine, $machine"
+    [ -n "$emulator" ] || die "the kit has no emulator for this machine, $machine"
     mkfifo "$scratch/trace"
     grep -c '^Trace' <"$scratch/trace" >"$scratch/count" &
     counter=$!

@@ -7,12 +7,13 @@ use mathlib.Core.Bool.{Bool, true, false, _||_, false≢true}
 use mathlib.Core.List.{List}
 use borrow.Author.Tests.{ltb-false}
 use lib.ListN.{length, replicate}
+use Rattle.sequences.specs.Choices.{both-fail}
 use Rattle.meaning.specs.Words.{_<?_}
 use Rattle.meaning.specs.Run as run
 use Rattle.meaning.specs.Run.{Outcome, Lent, refused, accepted, noRoom, outcome}
 use Rattle.engine.specs.declared.Answer.{Answer}
 use Rattle.engine.specs.declared.Answer.the-variants as answer
-use Rattle.walking.specs.Standing.{DoneIs}
+use Rattle.walking.specs.Going.{DoneIs}
 use Rattle.engine.specs.Outcomes.{short-lent, all-room}
 
 abbrev pub answerIs : Answer → run.Answer
@@ -25,18 +26,14 @@ outcomeIs a work ordinates records = record { answer = answerIs a; work = work; 
 abbrev pub lentAs : (work ordinates records : List ℕ) → Lent
 lentAs work ordinates records = record { work = length work; ordinates = length ordinates; records = length records }
 
-neither : (s t : Bool) → (s || t) ≡ false → (s ≡ false) × (t ≡ false)
-neither true t h = absurd (false≢true (sym h))
-neither false t h = (refl, h)
-
 -- what was lent is too short for so many ordinates and blocks, or the named block is above the count
 abbrev pub lacking : (nq blocks named ordinates records : ℕ) → Bool
 lacking nq blocks named ordinates records = (ordinates <? nq) || (records <? 32 * blocks) || (blocks <? named)
 
 enough-room : (nq blocks named ordinates records : ℕ) → lacking nq blocks named ordinates records ≡ false → (nq ≤ ordinates) × (32 * blocks ≤ records) × (named ≤ blocks)
 enough-room nq blocks named ordinates records h =
-    let a = neither ((ordinates <? nq) || (records <? 32 * blocks)) (blocks <? named) h in
-    let b = neither (ordinates <? nq) (records <? 32 * blocks) (a .0) in
+    let a = both-fail ((ordinates <? nq) || (records <? 32 * blocks)) (blocks <? named) h in
+    let b = both-fail (ordinates <? nq) (records <? 32 * blocks) (a .0) in
     (ltb-false ordinates nq (b .0), ltb-false records (32 * blocks) (b .1), ltb-false blocks named (a .1))
 
 module _ (deck : List ℕ) (named : ℕ) (work ordinates records work′ ordinates′ records′ : List ℕ)

@@ -58,19 +58,8 @@ pub fn run(
     }
     slices::zero_words(ordinates);
     slices::zero_bytes(records);
-    let mut rain = [0u64; 300];
-    let mut units = [0u64; 150];
-    let mut flow = [0u64; 300];
-    let w = walking::walk_deck(
-        deck,
-        named,
-        work,
-        ordinates,
-        records,
-        &mut rain,
-        &mut units,
-        &mut flow,
-    );
+    let mut cards = [0u64; records::WORDS];
+    let w = walking::walk_deck(deck, named, work, ordinates, records, &mut cards);
     if w.refused {
         return refuse(w.number, w.line, work, ordinates, records);
     }

@@ -8,6 +8,7 @@ use mathlib.Core.List.{List, [], _∷_, _++_}
 use native.Mathlib.Omega.{arith}
 use borrow.Author.Tests.{ltb-false, leb-false}
 use lib.ListN.{length, take, drop, length-append}
+use Rattle.sequences.specs.Refusals.{neither-met, not-met}
 use Rattle.sequences.specs.Sums.{length-listFrom}
 use Rattle.meaning.specs.Words.{_=?_, _≤?_, _<?_, met, first}
 use Rattle.meaning.specs.Fields.{Fixed, fieldsOf, nameIn}
@@ -23,7 +24,7 @@ use Rattle.results.specs.Records.{Each, each-more}
 use Rattle.listing.specs.Sizes.{mostBlocks}
 use Rattle.listing.specs.Trim.{name-sound}
 use Rattle.listing.specs.Listed.{Fits, fits}
-use Rattle.closing.specs.Holding.{area-after}
+use Rattle.closing.specs.Sizes.{area-after}
 
 pub record Fitting (τ : Time) (rs : List Result) : Type 0 where
   pub ordinates : τ .ordinates ≤ 300
@@ -62,17 +63,9 @@ unfolding made
 short-for τ b held few p = short-made (kindOf b) τ b (total (take (takes b) held)) few (short-total (takes b) held p)
 
 -- A BLOCK CLOSED without a refusal: its result fits
-neither : (m n : ℕ) → first m n ≡ 0 → (m ≡ 0) × (n ≡ 0)
-neither zero n e = (refl, e)
-neither (suc m) n e = absurd (omega arith)
-
-unmet : (t : Bool) (n : ℕ) → met t (suc n) ≡ 0 → t ≡ false
-unmet true n e = absurd (omega arith)
-unmet false n e = refl
-
 peak-low : (h : Held) → flowRefusal h ≡ 0 → peakOf (h .flow) ≤ flowLimit
 unfolding flowRefusal
-peak-low h e = ltb-false flowLimit (peakOf (h .flow)) (unmet (flowLimit <? peakOf (h .flow)) 12 e)
+peak-low h e = ltb-false flowLimit (peakOf (h .flow)) (not-met (flowLimit <? peakOf (h .flow)) 12 e)
 
 -- what stands after so many blocks: an area at most for each
 record After (s : Standing) : Type 0 where
@@ -89,10 +82,10 @@ module _ (τ : Time) (b : Block) (s : Standing) (time : limits.TimeWithin τ) (b
 
   no-refusal : (shapeRefusal τ b (length (s .held)) ≡ 0) × (flowRefusal (heldFor τ b (s .held)) ≡ 0)
   unfolding closingRefusal
-  no-refusal = neither (shapeRefusal τ b (length (s .held))) (flowRefusal (heldFor τ b (s .held))) sound
+  no-refusal = neither-met (shapeRefusal τ b (length (s .held))) (flowRefusal (heldFor τ b (s .held))) sound
 
   areas-then : total (heldAfter τ b (s .held)) .area ≤ 999_999 * (length (s .results) + 1)
-  areas-then = omega (arith, area-after τ b (s .held) block (no-refusal .0), after .areas)
+  areas-then = omega (arith, area-after τ b (s .held) (block .cards) (no-refusal .0), after .areas)
 
   flow-short : length (heldFor τ b (s .held) .flow) ≤ 300
   flow-short = short-for τ b (s .held) (time .few-ordinates) (after .short)
@@ -206,12 +199,12 @@ act-done (Refuse number) r s line go st within stays ih e = absurd (let z : _≡
 act-done (Go next) r s line go st within stays ih e = ih next s (record { reading = within; after = st .after; open′ = omega (arith, st .open′) }) e
 act-done (Open next) r s line go st within stays ih e =
     let d = step-done (first (openRefusal r s) (met (200 ≤? s .blocks) 14)) line (Next next (oneMore (closed r s))) go e in
-    let none = neither (openRefusal r s) (met (200 ≤? s .blocks) 14) (d .0) in
-    ih next (oneMore (closed r s)) (opened-stands r next s st within (none .0) (leb-false 200 (s .blocks) (unmet (200 ≤? s .blocks) 13 (none .1)))) (d .1)
+    let none = neither-met (openRefusal r s) (met (200 ≤? s .blocks) 14) (d .0) in
+    ih next (oneMore (closed r s)) (opened-stands r next s st within (none .0) (leb-false 200 (s .blocks) (not-met (200 ≤? s .blocks) 13 (none .1)))) (d .1)
 act-done (End τ′) r s line go {τ} {rs} st within stays ih e =
     let lone = met (not (length (closed r s .held) =? 1)) 15 in
     let d = step-done (first (openRefusal r s) lone) line (Stop (Done τ′ (closed r s .results))) go e in
-    let a = closed-after r s st (neither (openRefusal r s) lone (d .0) .0) in
+    let a = closed-after r s st (neither-met (openRefusal r s) lone (d .0) .0) in
     let time : τ′ ≡ τ = cc in
     let results : closed r s .results ≡ rs = cc in
     let whole : Fitting τ′ (closed r s .results) = record { ordinates = within .few-ordinates; few = omega (arith, a .few, a .counted); each = a .fit } in

@@ -120,7 +120,8 @@ lines-front : (r records : List ℕ) (k : ℕ) → length r ≡ recordSize → l
 lines-front r records zero long = rw (take-at r records recordSize long) (sym (append-nil (lineOf r)))
 lines-front r records (suc k) long =
     let place : recordSize * suc k ≡ recordSize + recordSize * k = omega arith in
-    let next : part (recordSize * suc k) recordSize (r ++ records) ≡ part (recordSize * k) recordSize records = rw (place, ← drop-drop (recordSize * k) recordSize (r ++ records), drop-at r records recordSize long) in
+    let next : part (recordSize * suc k) recordSize (r ++ records) ≡ part (recordSize * k) recordSize records =
+    rw (place, ← drop-drop (recordSize * k) recordSize (r ++ records), drop-at r records recordSize long) in
     rw (next, lines-front r records k long) (append-assoc (lineOf r) (linesTo k records) (lineOf (part (recordSize * k) recordSize records)))
 
 pub lines-of : (rs : List Result) (rest : List ℕ) → Each Fits rs → linesTo (length rs) (recordsOf rs ++ rest) ≡ listedAll rs

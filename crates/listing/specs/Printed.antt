@@ -2,7 +2,8 @@
 --     lentRoom           the room: neither 1 nor 17 can be met
 --     Prints             an outcome whose text this is, of no more records than are lent for
 --     run-prints         the outcome of a deck prints its listing
---     accepted-prints, refused-prints    and so for either answer of the engine
+--     accepted-prints    and so do the records of an accepted run
+--     refused-prints     and so does the line of a refusal
 use Prim.Native.Nat.{ℕ, _-_, _*_, _≤_}
 use mathlib.Core.Path.{_≡_, refl}
 use mathlib.Core.Bool.{Bool, true, false}
@@ -19,6 +20,7 @@ use Rattle.engine.specs.declared.Answer as engine
 use Rattle.engine.specs.declared.Answer.the-variants as answer
 use Rattle.engine.specs.Answers.{outcomeIs}
 use Rattle.listing.specs.Sizes.{mostBlocks, recordsSize}
+use Rattle.listing.specs.Written.{Written}
 use Rattle.listing.specs.Line.{listingOf}
 use Rattle.listing.specs.Listed.{listing-of}
 use Rattle.listing.specs.Fitting.{Fitting, done-fits}
@@ -71,7 +73,8 @@ module _ (deck : List ℕ) (a : engine.Answer) {work ordinates records : List �
       let p : Prints (listing deck) (outcomeIs (answer.Accepted _ _) work ordinates records) = rw told at prints in
       (p .few, p .same)
 
-  pub refused-prints : {number line : ℕ} → a ≡ answer.Refused number line → refusedLine number line ≡ listing deck
-  refused-prints told =
+  pub refused-prints : {number line n l behind : ℕ} {out next : List ℕ} → a ≡ answer.Refused number line → Written out 0 (refusedLine n l) next behind → n ≡ number → l ≡ line
+      → Written out 0 (listing deck) next behind
+  refused-prints told w sameNumber sameLine =
       let p : Prints (listing deck) (outcomeIs (answer.Refused _ _) work ordinates records) = rw told at prints in
-      p .same
+      rw (sameNumber, sameLine, p .same) at w

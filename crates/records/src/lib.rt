@@ -32,6 +32,9 @@ pub const IT: usize = 7;
 // Where the regions begin, and behind the last the end: a head word, then room for the values.
 const STARTS: [u16; 8] = [0, 2, 303, 307, 458, 759, 761, 765];
 
+// All of them.
+pub const WORDS: usize = 765;
+
 // How a record stands: 0 once, 1 a list of as many values as there is room for, 2 a list of at most NQ.
 const WAYS: [u8; 7] = [0, 2, 0, 1, 2, 0, 0];
 

@@ -25,8 +25,9 @@ returns-3 c =
 returns-4 : tie.Need-returns-4
 returns-4 c =
     let p = c .before .before .before .before in
-    answers (p .before .before .before .before)
-    (at-cr-lf _ _ _ (p .before .before .before .if1 .left) (p .before .before .if2 .left) (p .if3 .left) (c .before .before .before .if4 .taken) (c .if6 .taken))
+    let q = p .before .before .before in
+    answers (q .before)
+    (at-cr-lf (q .before .before .before .args .s .now) _ _ (q .if1 .left) (p .before .before .if2 .left) (p .if3 .left) (c .before .before .before .if4 .taken) (c .if6 .taken))
 
 returns-5 : tie.Need-returns-5
 returns-5 c =

@@ -3,7 +3,7 @@ use borrow.Author.Needs.{needs}
 use native.Mathlib.Omega.{arith}
 use mathlib.Core.Path.{_≡_, _∙_, ap}
 use mathlib.Core.List.{List}
-use Prim.Native.Nat.{ℕ, _-_}
+use Prim.Native.Nat.{ℕ, _-_, _≤_}
 use lib.ListN.{length, drop, getD}
 use Rattle.meaning.specs.Words.{_=?_}
 use Rattle.meaning.specs.Numbers.{decimalOf}
@@ -19,11 +19,8 @@ returns c = blank-number _ (c .if1 .taken)
 returns-2 : tie.Need-returns-2
 returns-2 c = long-number _ (c .if2 .taken)
 
-sub-read-unsigned : tie.Need-sub-read-unsigned
-sub-read-unsigned c = omega (arith, sign-one (getD (c .before .before .before .before .before .args .f .now) 0 0), c .sign-length .ensures)
-
-part-read-unsigned-start : tie.Need-part-read-unsigned-start
-part-read-unsigned-start c = omega (arith, sign-one (getD (c .before .before .before .before .before .args .f .now) 0 0), c .sign-length .ensures)
+sign : (c : tie.After-sign-length) → c .sign-length .result ≤ 1
+sign c = omega (arith, sign-one (getD (c .before .before .before .before .before .args .f .now) 0 0), c .sign-length .ensures)
 
 returns-3 : tie.Need-returns-3
 returns-3 c =
@@ -42,8 +39,8 @@ read-number-spec =
     returns-2
     (λ c. search needs)
     (λ c κs. search needs)
-    sub-read-unsigned
-    part-read-unsigned-start
+    (λ c. omega (arith, sign c))
+    (λ c. omega (arith, sign c))
     (λ c. search needs)
     (λ c κs. search needs)
     returns-3)

@@ -12,29 +12,8 @@ Inv-loop words n₀ i₀ n i = (i ≤ length words) × (n ≤ i)
 abbrev μ-loop : tie.MeasureT-loop
 μ-loop words n₀ i₀ n i = length words - i
 
-loop-holds : tie.Need-loop-holds Inv-loop μ-loop
-loop-holds c = omega arith
-
-mul-if1 : tie.Need-mul-if1 Inv-loop μ-loop
-mul-if1 c = omega arith
-
-shared-slice-read-if1 : tie.Need-shared-slice-read-if1 Inv-loop μ-loop
-shared-slice-read-if1 c = omega arith
-
-add-n : tie.Need-add-n Inv-loop μ-loop
-add-n c = omega arith
-
-add-i : tie.Need-add-i Inv-loop μ-loop
-add-i c = omega arith
-
-loop-less : tie.Need-loop-less Inv-loop μ-loop
-loop-less c = omega arith
-
 loop-again : tie.Need-loop-again Inv-loop μ-loop
 loop-again c = ⊎-elim (λ w. omega arith) (λ w. omega arith) (c .if1 .came)
-
-returns : tie.Need-returns Inv-loop μ-loop
-returns c = tt
 
 pub count-left-spec : {M : Type 1} → statement M
 count-left-spec =
@@ -42,11 +21,11 @@ count-left-spec =
     (tie.spec
     Inv-loop
     μ-loop
-    loop-holds
-    mul-if1
-    shared-slice-read-if1
-    add-n
-    add-i
-    loop-less
+    (λ c. omega arith)  -- loop-holds
+    (λ c. omega arith)  -- mul-if1
+    (λ c. omega arith)  -- shared-slice-read-if1
+    (λ c. omega arith)  -- add-n
+    (λ c. omega arith)  -- add-i
+    (λ c. omega arith)  -- loop-less
     loop-again
-    returns)
+    (λ c. tt))  -- returns

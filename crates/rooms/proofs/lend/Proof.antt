@@ -7,20 +7,11 @@ use borrow.Author.Needs.{needs}
 use Rattle.rooms.proofs.lend.Statement.{statement}
 use Rattle.rooms.proofs.lend.Tie as tie
 
-array-borrow-prefix-work : tie.Need-array-borrow-prefix-work
-array-borrow-prefix-work c = search needs
-
 slice-aggregate-run-case : tie.Need-slice-aggregate-run-case
 slice-aggregate-run-case c = sym (length-take-le _ _ (omega arith))
 
-array-borrow-prefix-ordinates : tie.Need-array-borrow-prefix-ordinates
-array-borrow-prefix-ordinates c = search needs
-
 slice-aggregate-run-case-2 : tie.Need-slice-aggregate-run-case-2
 slice-aggregate-run-case-2 c = sym (length-take-le _ _ (omega arith))
-
-array-borrow-prefix-records : tie.Need-array-borrow-prefix-records
-array-borrow-prefix-records c = search needs
 
 slice-aggregate-run-case-3 : tie.Need-slice-aggregate-run-case-3
 slice-aggregate-run-case-3 c = sym (length-take-le _ _ (omega arith))
@@ -28,18 +19,15 @@ slice-aggregate-run-case-3 c = sym (length-take-le _ _ (omega arith))
 run-case-requires : tie.Need-run-case-requires
 run-case-requires c κs = simp length-take (omega arith)
 
-returns : tie.Need-returns
-returns c = search needs
-
 pub lend-spec : {M : Type 1} → statement M
 lend-spec =
     tie.close
     (tie.spec
-    array-borrow-prefix-work
+    (λ c. search needs)  -- array-borrow-prefix-work
     slice-aggregate-run-case
-    array-borrow-prefix-ordinates
+    (λ c. search needs)  -- array-borrow-prefix-ordinates
     slice-aggregate-run-case-2
-    array-borrow-prefix-records
+    (λ c. search needs)  -- array-borrow-prefix-records
     slice-aggregate-run-case-3
     run-case-requires
-    returns)
+    (λ c. search needs))  -- returns

@@ -6,7 +6,7 @@ use Rattle.fields.proofs.names.bad_name.Statement.{statement}
 use Rattle.fields.proofs.names.bad_name.Tie as tie
 
 returns : tie.Need-returns
-returns c = empty-bad _ (c .if1 .taken)
+returns c = empty-bad (c .before .before .args .name .now) (c .if1 .taken)
 
 returns-2 : tie.Need-returns-2
 returns-2 c = long-bad _ (c .before .if1 .left) (c .if2 .taken)

@@ -1,0 +1,24 @@
+# kit.sh, for other scripts to source: where the Rattle kit is, how a program that it linked is started, and the numbers of the refusals.
+# shellcheck shell=sh disable=SC2034
+
+refusals=17
+
+# numbers FIRST LAST: each number from the first to the last
+numbers() { awk -v i="$1" -v last="$2" 'BEGIN { for (; i <= last; i++) print i }'; }
+
+# find_kit: sets rt, and from its place tools, loader and, where the machine is not x86-64, emulator. Fails where there is no kit.
+find_kit() {
+    rt=$(command -v rt 2>/dev/null) || rt=${RATTLE_HOME:+$RATTLE_HOME/bin/rt}
+    if [ -z "$rt" ] || [ ! -x "$rt" ]; then return 1; fi
+    rt=$(readlink -f "$rt")
+    tools=${RATTLE_HOME:-$(dirname -- "$(dirname -- "$rt")")}/on/$(uname -m)/toolchain
+    loader=$tools/lib/ld-linux-x86-64.so.2
+    emulator=$tools/bin/qemu-x86_64
+    [ -x "$emulator" ] || emulator=
+    # settings of the emulator could change what a program prints
+    for word in $(env | sed -n 's/^\(QEMU_[A-Za-z0-9_]*\)=.*/\1/p'); do unset "$word"; done
+}
+no_kit='the Rattle kit is missing: there is no command rt'
+
+# start PROGRAM: starts a program that rt linked, with the kit's loader and C library
+start() { ${emulator:+"$emulator"} "$loader" --library-path "$tools/lib" "$1"; }
