@@ -76,7 +76,7 @@ pub fn fill(s: &mut [u8]) -> Next
 }
 
 // A number in 4 bytes, the lowest first.
-pub fn read_number() -> Next
+fn read_number() -> Next
     ensures { λ r. ⌜ InFour r ⌝ }
 {
     let mut b = [0u8; 4];
