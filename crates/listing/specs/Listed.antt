@@ -28,7 +28,6 @@ use Rattle.results.specs.Records.{Each, length-record}
 use Rattle.listing.specs.declared.Figures.{Figures}
 use Rattle.slices.specs.Bytes.{fromLittleEndian, read-back}
 use Rattle.listing.specs.Trim.{trim-name}
-use Rattle.listing.specs.Written.{Written, written-text}
 use Rattle.listing.specs.Line.{figuresOf, figuresText, lineOf, linesTo, endLine, listingOf}
 
 -- The bytes of a record behind the name.
@@ -134,11 +133,6 @@ lines-of (r ∷ rs) rest fs =
 pub listing-of : (τ : Time) (rs : List Result) (rest : List ℕ) → Each Fits rs → listingOf (recordsOf rs ++ rest) (length rs) ≡ listingBy (Done τ rs)
 unfolding listingOf endLine
 listing-of τ rs rest fs = rw (lines-of rs rest fs) (simp append-assoc)
-
--- what stands before the place that `write_listing` answers, where the records are those of an accepted run
-pub listing-printed : (τ : Time) (rs : List Result) (rest : List ℕ) {out next : List ℕ} {behind : ℕ} → Each Fits rs
-    → Written out 0 (listingOf (recordsOf rs ++ rest) (length rs)) next behind → take behind next ≡ listingBy (Done τ rs)
-listing-printed τ rs rest fs w = written-text w ∙ listing-of τ rs rest fs
 
 -- the limits that a closed block is held to
 pub fits : (r : Result) → length (r .block .name) ≤ 6 → anyBlank (r .block .name) ≡ false → r .held .area < 256 ^ 4 → length (r .held .flow) ≤ 300 → peakOf (r .held .flow) ≤ flowLimit

@@ -64,9 +64,11 @@ unfolding outcome listing if_then_else_
 run-prints deck = by-length deck (60_000 <? length deck)
 
 -- by the answer of the engine
-module _ (deck : List ℕ) (a : engine.Answer) {work ordinates records : List ℕ} (e : outcomeIs a work ordinates records ≡ outcome deck 0 lentRoom) where
+module _ (deck : List ℕ) (a : engine.Answer) {work ordinates records : List ℕ} {w q r : ℕ}
+    (e : outcomeIs a work ordinates records ≡ outcome deck 0 (record { work = w; ordinates = q; records = r }))
+    (words : w ≡ 6_000) (flows : q ≡ 300) (bytes : r ≡ recordsSize) where
   prints : Prints (listing deck) (outcomeIs a work ordinates records)
-  prints = rw e (run-prints deck)
+  prints = rw (e, words, flows, bytes) (run-prints deck)
 
   pub accepted-prints : {nq blocks : ℕ} → a ≡ answer.Accepted nq blocks → (blocks ≤ mostBlocks) × (listingOf records blocks ≡ listing deck)
   accepted-prints told =

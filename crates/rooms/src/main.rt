@@ -1,10 +1,19 @@
 // Cases from standard input, each the named block, the work words, the ordinates, the record bytes and the deck's length, in 4 bytes each, and the deck.
 // Everything lent is filled with ones before a run. Of each: the answer, all ordinates, all record bytes, how many work words are not zero, and '--'.
 ghost use mathlib.Core.Path.{_≡_};
-ghost use Prim.Native.Nat.{_+_, _*_, _<_, _≤_};
+ghost use Prim.Native.Nat.{_+_, _-_, _*_, _<_, _≤_};
 ghost use lib.ListN.{length};
 use engine::Answer;
 use streams::Next;
+
+// The most that a case may ask for, and the bytes of its text.
+const WORK: usize = 12_000;
+
+const ORDINATES: usize = 600;
+
+const RECORDS: usize = 16_000;
+
+const TEXT: usize = 21 * (ORDINATES + RECORDS) + 76;
 
 fn put_byte(out: &mut [u8], at: usize, b: u8) -> usize
     requires { ⌜ at < length (now out) ⌝ }
@@ -77,20 +86,6 @@ fn put_gap(out: &mut [u8], at: usize, i: usize) -> usize
     put_byte(out, at, b' ')
 }
 
-fn put_words(out: &mut [u8], start: usize, words: &[u64]) -> usize
-    requires { ⌜ start + 21 * length (now words) + 1 ≤ length (now out) ⌝ }
-    ensures { λ r. ⌜ r ≤ start + 21 * length (now (words .entry)) + 1 ⌝ }
-{
-    let mut at = start;
-    let mut i = 0;
-    while i < words.len() {
-        let word = put_gap(out, at, i);
-        at = put_number(out, word, words[i]);
-        i += 1;
-    }
-    put_byte(out, at, b'\n')
-}
-
 fn hex_digit(d: u8) -> u8
     requires { ⌜ d < 16 ⌝ }
 {
@@ -105,14 +100,34 @@ fn put_hex(out: &mut [u8], at: usize, b: u8) -> usize
     put_byte(out, low, hex_digit(b % 16))
 }
 
-fn put_bytes(out: &mut [u8], start: usize, s: &[u8]) -> usize
-    requires { ⌜ start + 2 * length (now s) + 1 ≤ length (now out) ⌝ }
-    ensures { λ r. ⌜ r ≡ start + 2 * length (now (s .entry)) + 1 ⌝ }
+// What stands at place `i` of the results, the ordinates and the record bytes behind them: an ordinate in decimal, or a byte in hex.
+fn put_item(out: &mut [u8], at: usize, i: usize, ordinates: &[u64], records: &[u8]) -> usize
+    requires { ⌜ (i < length (now ordinates) + length (now records)) × (at + 21 ≤ length (now out)) ⌝ }
+    ensures { λ r. ⌜ r ≤ at + 21 ⌝ }
+{
+    if i < ordinates.len() {
+        let word = put_gap(out, at, i);
+        return put_number(out, word, ordinates[i]);
+    }
+    put_hex(out, at, records[i - ordinates.len()])
+}
+
+// A line of the results from one place to another.
+fn put_line(
+    out: &mut [u8],
+    start: usize,
+    from: usize,
+    to: usize,
+    ordinates: &[u64],
+    records: &[u8],
+) -> usize
+    requires { ⌜ (from ≤ to) × (to ≤ length (now ordinates) + length (now records)) × (start + 21 * (to - from) + 1 ≤ length (now out)) ⌝ }
+    ensures { λ r. ⌜ r ≤ start + 21 * (to - from) + 1 ⌝ }
 {
     let mut at = start;
-    let mut i = 0;
-    while i < s.len() {
-        at = put_hex(out, at, s[i]);
+    let mut i = from;
+    while i < to {
+        at = put_item(out, at, i, ordinates, records);
         i += 1;
     }
     put_byte(out, at, b'\n')
@@ -137,12 +152,13 @@ fn put_case(
     ordinates: &[u64],
     records: &[u8],
 ) -> usize
-    requires { ⌜ 21 * length (now ordinates) + 2 * length (now records) + 76 ≤ length (now out) ⌝ }
+    requires { ⌜ 21 * (length (now ordinates) + length (now records)) + 76 ≤ length (now out) ⌝ }
     ensures { λ r. ⌜ r ≤ length (now (out .exit)) ⌝ }
 {
     let flows = put_answer(out, answer);
-    let hex = put_words(out, flows, ordinates);
-    let count = put_bytes(out, hex, records);
+    let places = ordinates.len() + records.len();
+    let hex = put_line(out, flows, 0, ordinates.len(), ordinates, records);
+    let count = put_line(out, hex, ordinates.len(), places, ordinates, records);
     let end = put_number(out, count, count_left(work));
     let mark = put_byte(out, end, b'\n');
     put_text(out, mark, b"--\n")
@@ -152,7 +168,7 @@ fn run_case(deck: &[u8], named: usize, work: &mut [u64], ordinates: &mut [u64], 
     requires { ⌜ (length (now ordinates) ≤ 600) × (length (now records) ≤ 16_000) ⌝ }
 {
     let answer = engine::run(deck, named, work, ordinates, records);
-    let mut out = [0u8; 44_676];
+    let mut out = [0u8; TEXT];
     let n = put_case(&mut out, answer, work, ordinates, records);
     streams::print(&out[..n]);
 }
@@ -172,9 +188,9 @@ fn lend(deck: &[u8], case: Case)
     let w = case.work;
     let q = case.ordinates;
     let n = case.records;
-    let mut work = [1u64; 12_000];
-    let mut ordinates = [1u64; 600];
-    let mut records = [1u8; 16_000];
+    let mut work = [1u64; WORK];
+    let mut ordinates = [1u64; ORDINATES];
+    let mut records = [1u8; RECORDS];
     run_case(
         deck,
         case.named,
@@ -218,13 +234,13 @@ fn answer_next(deck: &mut [u8]) -> bool {
     let Asked::Run(case) = read_case() else {
         return false;
     };
-    if 12_000 < case.work {
+    if WORK < case.work {
         return false;
     }
-    if 600 < case.ordinates {
+    if ORDINATES < case.ordinates {
         return false;
     }
-    if 16_000 < case.records {
+    if RECORDS < case.records {
         return false;
     }
     match streams::read_deck(deck, case.size) {

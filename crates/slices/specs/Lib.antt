@@ -1,4 +1,3 @@
--- What a copy over zeros is, numbers in bytes, and that each contract leaves one outcome.
-pub mod Copies
+-- Numbers in bytes, and that each contract leaves one outcome.
 pub mod Bytes
 pub mod Unique

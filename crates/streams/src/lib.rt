@@ -3,7 +3,7 @@
 ghost use mathlib.Core.Path.{_≡_};
 ghost use Prim.Native.Nat.{_≤_};
 ghost use Rattle.io.specs.Counts.{Counts};
-ghost use Rattle.streams.specs.Kept.{Filled, InFour, Kept, Fits};
+ghost use Rattle.streams.specs.Numbers.{Filled, InFour, Kept, Fits};
 use libc::STDERR_FILENO;
 use libc::STDIN_FILENO;
 use libc::STDOUT_FILENO;
@@ -76,7 +76,7 @@ pub fn fill(s: &mut [u8]) -> Next
 }
 
 // A number in 4 bytes, the lowest first.
-pub fn read_number() -> Next
+fn read_number() -> Next
     ensures { λ r. ⌜ InFour r ⌝ }
 {
     let mut b = [0u8; 4];

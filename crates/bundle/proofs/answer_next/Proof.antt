@@ -3,7 +3,7 @@ use Prim.Native.Nat.{ℕ, _≤_}
 use mathlib.Core.Path.{sym}
 use lib.ListN.{length}
 use lib.Seq.{length-take-le}
-use Rattle.streams.specs.Kept.{of-number}
+use Rattle.streams.specs.Numbers.{of-number}
 use borrow.Author.Needs.{needs}
 use Rattle.bundle.proofs.answer_next.Statement.{statement}
 use Rattle.bundle.proofs.answer_next.Tie as tie

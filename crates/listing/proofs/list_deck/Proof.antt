@@ -20,7 +20,7 @@ accepted : (c : tie.After-blocks2)
     × (listingOf (ran c .run .last .1 .1 .1 .1 .0) (c .blocks2 .given .0 .1 .0) ≡ listing (ran c .before .before .before .before .before .before .args .deck .now))
 accepted c =
     let x = ran c .before .before .before .before .before .before .args in
-    accepted-prints (x .deck .now) (ran c .run .result) (ran c .run .ensures) (c .blocks2 .given .1)
+    accepted-prints (x .deck .now) (ran c .run .result) (ran c .run .ensures) (omega arith) (omega arith) (omega arith) (c .blocks2 .given .1)
 
 write-listing-requires : tie.Need-write-listing-requires
 write-listing-requires c κs = omega (arith, accepted (c .before .before .before) .0)
@@ -36,7 +36,9 @@ returns-2 c =
     let ran = told .before .before .before .before .before in
     let x = ran .before .before .before .before .before .before .args in
     let w = c .before .before .write-refusal .ensures in
-    (refused-prints (x .deck .now) (ran .run .result) (ran .run .ensures) (told .number .given .1) w (omega arith) (omega arith), written-counted w)
+    let printed =
+    refused-prints (x .deck .now) (ran .run .result) (ran .run .ensures) (omega arith) (omega arith) (omega arith) (told .number .given .1) w (omega arith) (omega arith) in
+    (printed, written-counted w)
 
 pub list-deck-spec : {M : Type 1} → statement M
 list-deck-spec =

@@ -4,7 +4,7 @@ use mathlib.Core.Path.{_≡_, sym}
 use native.Mathlib.Omega.{arith}
 use lib.ListN.{length}
 use lib.Seq.{length-take-le}
-use Rattle.streams.specs.Kept.{of-number}
+use Rattle.streams.specs.Numbers.{of-number}
 use borrow.Author.Needs.{needs}
 use Rattle.rooms.proofs.answer_next.Statement.{statement}
 use Rattle.rooms.proofs.answer_next.Tie as tie

@@ -1,9 +1,13 @@
 -- What was put lies within the text's slice.
 use mathlib.Core.Path.{sym}
+use native.Mathlib.Omega.{arith}
 use lib.Seq.{length-take-le}
 use borrow.Author.Needs.{needs}
 use Rattle.rooms.proofs.run_case.Statement.{statement}
 use Rattle.rooms.proofs.run_case.Tie as tie
+
+put-case-requires : tie.Need-put-case-requires
+put-case-requires c κs = omega arith
 
 slice-aggregate-print : tie.Need-slice-aggregate-print
 slice-aggregate-print c = sym (length-take-le _ _ (search needs))
@@ -14,7 +18,7 @@ run-case-spec =
     (tie.spec
     (λ c κs. search needs)  -- run-requires
     (λ c. search needs)  -- slice-aggregate-put-case
-    (λ c κs. search needs)  -- put-case-requires
+    put-case-requires
     (λ c. search needs)  -- array-share-prefix-out
     slice-aggregate-print
     (λ c κs. search needs)  -- print-requires

@@ -1,5 +1,5 @@
 -- What is kept lies within what is lent.
-use Rattle.streams.specs.Kept.{kept-fits}
+use Rattle.streams.specs.Numbers.{kept-fits}
 use borrow.Author.Needs.{needs}
 use Rattle.streams.proofs.next_deck.Statement.{statement}
 use Rattle.streams.proofs.next_deck.Tie as tie
