@@ -1,26 +1,17 @@
 // Reading a deck from line to line, to the next event: a line that is refused, opens a block or ends the deck. It knows no hydrograph.
-ghost use mathlib.Core.Path.{_≡_};
-ghost use mathlib.Core.List.{List};
-ghost use Prim.Native.Nat.{ℕ, _≤_, _<_};
-ghost use lib.ListN.{length, getD};
-ghost use Rattle.meaning.specs.Fields.{nameIn};
+mod names;
+mod places;
+mod taking;
+
+ghost use Prim.Native.Nat.{_≤_};
+ghost use lib.ListN.{length};
 ghost use Rattle.meaning.specs.Records.{table};
-ghost use Rattle.meaning.specs.Blocks.{repeated};
-ghost use Rattle.fields.specs.Spans.{formOf};
-ghost use Rattle.identifiers.specs.Heads.{recordIs, OfTable};
-ghost use Rattle.records.specs.Rows.{items, wordsOf};
-ghost use Rattle.blocks.specs.Meant.{nameIs};
-ghost use Rattle.blocks.specs.Cards.{blockOf, Readable};
-ghost use Rattle.scanning.specs.Scans.{scannedOf};
+ghost use Rattle.records.specs.Rows.{wordsOf};
 ghost use Rattle.reading.specs.Readings.{readingIs, Ready, Begins, Opens};
-ghost use Rattle.reading.specs.Places.{beforeTime, afterTime, inBlock, Due, PlacedIs, MayRead};
-ghost use Rattle.reading.specs.Taken.{timeTaken, Passed, LineTaken};
-ghost use Rattle.reading.specs.Labels.{Labels};
 ghost use Rattle.reading.specs.Found.{Gets};
 use blocks::Name;
 use blocks::Time;
 use identifiers::Head;
-use identifiers::Record;
 use scanning::Scan;
 
 // Where the reading stands: before IT; after IT, before the first KK; in a block.
@@ -38,15 +29,6 @@ pub struct Reading {
     pub name: Name,
 }
 
-fn no_name() -> Name
-    ensures { λ r. ⌜ r .letters ≤ 6 ⌝ }
-{
-    Name {
-        bytes: [0u8; 6],
-        letters: 0,
-    }
-}
-
 // Where a deck's reading begins: fixed form, no time control, no block.
 pub fn first_reading(cards: &mut [u64]) -> Reading
     requires { ⌜ wordsOf table ≤ length (now cards) ⌝ }
@@ -60,7 +42,7 @@ pub fn first_reading(cards: &mut [u64]) -> Reading
             minutes: 0,
             ordinates: 0,
         },
-        name: no_name(),
+        name: names::no_name(),
     }
 }
 
@@ -88,155 +70,16 @@ pub enum Placed {
     Fields(usize),
 }
 
-// A record that stands only before IT, and IT itself.
-fn before_time(phase: Phase, then: Placed) -> Placed
-    ensures { λ s. ⌜ s ≡ beforeTime phase then ⌝ }
-{
-    match phase {
-        Phase::BeforeTime => then,
-        Phase::BeforeBlocks => Placed::Misplaced,
-        Phase::InBlock => Placed::Misplaced,
-    }
-}
-
-// One that stands only after it.
-fn after_time(phase: Phase, then: Placed) -> Placed
-    ensures { λ s. ⌜ s ≡ afterTime phase then ⌝ }
-{
-    match phase {
-        Phase::BeforeTime => Placed::Misplaced,
-        Phase::BeforeBlocks => then,
-        Phase::InBlock => then,
-    }
-}
-
-// A record of a block stands in one, and one that stands once is not there yet.
-fn in_block(phase: Phase, cards: &[u64], item: usize) -> Placed
-    requires { ⌜ (item < items) × Readable (now cards) ⌝ }
-    ensures { λ s. ⌜ ((name : List ℕ) → s ≡ inBlock phase (repeated item (blockOf name (now (cards .entry)))) item) ⌝ }
-{
-    match phase {
-        Phase::BeforeTime => Placed::Misplaced,
-        Phase::BeforeBlocks => Placed::Misplaced,
-        Phase::InBlock => {
-            if blocks::is_repeated(cards, item) {
-                return Placed::Misplaced;
-            }
-            Placed::Fields(item)
-        }
-    }
-}
-
-// What a record does where the reading stands.
-fn place_record(r: Reading, cards: &[u64], k: Record) -> Placed
-    requires { ⌜ OfTable k × Readable (now cards) ⌝ }
-    ensures { λ s. ⌜ PlacedIs s (readingIs r (now (cards .entry))) (recordIs k) × MayRead s (r .phase) (now (cards .entry)) ⌝ }
-{
-    let phase = r.phase;
-    match k {
-        Record::Id => before_time(phase, Placed::Passed(r.free)),
-        Record::It => before_time(phase, Placed::Fields(records::IT)),
-        Record::Kk => after_time(phase, Placed::Named),
-        Record::Km => Placed::Passed(r.free),
-        Record::Zz => after_time(phase, Placed::Last),
-        Record::Free => Placed::Passed(true),
-        Record::Fix => Placed::Passed(false),
-        Record::Of(item) => in_block(phase, cards, item),
-    }
-}
-
 // A line's values taken: the refusal, 0 for none, and where the reading stands then.
 pub struct Read {
     pub refusal: u64,
     pub reading: Reading,
 }
 
-// IT taken: minutes and ordinates.
-fn take_time(r: Reading, values: &[u64]) -> Read
-    requires { ⌜ (length (now values) ≡ 10) × (getD (now values) 3 0 ≤ 300) ⌝ }
-    ensures { λ x. ⌜ x ≡ timeTaken r (now (values .entry)) ⌝ }
-{
-    let name = r.name;
-    Read {
-        refusal: 0,
-        reading: Reading {
-            phase: Phase::BeforeBlocks,
-            free: r.free,
-            time: Time {
-                minutes: values[0],
-                ordinates: values[3] as usize,
-            },
-            name: name,
-        },
-    }
-}
-
-// A line's values, read without a fault: outside their limits they are refused by 7, else they are taken.
-fn take_line(r: Reading, item: usize, values: &[u64], scan: Scan, cards: &mut [u64]) -> Read
-    requires { ⌜ Ready r (now cards) × Due (r .phase) item (now cards) ⌝ }
-    requires { ⌜ Passed item (scannedOf (now values) scan) ⌝ }
-    ensures { λ x. ⌜ LineTaken r item (scannedOf (now (values .entry)) scan) x (now (cards .entry)) (now (cards .exit)) ⌝ }
-{
-    if scan.outside {
-        return Read {
-            refusal: 7,
-            reading: r,
-        };
-    }
-    let phase = r.phase;
-    match phase {
-        Phase::BeforeTime => take_time(r, values),
-        Phase::BeforeBlocks => Read {
-            refusal: 5,
-            reading: r,
-        },
-        Phase::InBlock => {
-            let time = r.time;
-            Read {
-                refusal: blocks::take_values(cards, item, values, scan.count, time.ordinates),
-                reading: r,
-            }
-        }
-    }
-}
-
 // The name that a KK line gives, and whether it is none.
 pub struct Label {
     pub bad: bool,
     pub name: Name,
-}
-
-// A name copied out of its line.
-fn copy_name(f: &[u8]) -> Name
-    requires { ⌜ length (now f) ≤ 6 ⌝ }
-    ensures { λ r. ⌜ (nameIs r ≡ now (f .entry)) × (r .letters ≤ 6) ⌝ }
-{
-    let mut bytes = [0u8; 6];
-    let letters = bytes::copy(f, &mut bytes);
-    Name {
-        bytes: bytes,
-        letters: letters,
-    }
-}
-
-fn read_name(free: bool, l: &[u8]) -> Label
-    requires { ⌜ length (now l) ≤ 80 ⌝ }
-    ensures { λ r. ⌜ Labels (nameIn (formOf free) (now (l .entry))) r ⌝ }
-{
-    let span = fields::name_span(free, l);
-    let from = span.from;
-    let to = span.to;
-    let f = &l[from..to];
-    if fields::bad_name(f) {
-        return Label {
-            bad: true,
-            name: no_name(),
-        };
-    }
-    Label {
-        bad: false,
-        name: copy_name(f),
-    }
 }
 
 // What reading on has come to: a line refused, a block opened, the deck ended; or no line is left.
@@ -267,7 +110,7 @@ pub fn read_on(s: &[u8], from: usize, before: u64, start: Reading, cards: &mut [
     let mut n = before;
     let mut r = start;
     let mut event = Event::Missing;
-    let mut name = no_name();
+    let mut name = names::no_name();
     let mut values = [0u64; 10];
     'line: while at < s.len() {
         let line = lines::line_at(s, at);
@@ -284,7 +127,7 @@ pub fn read_on(s: &[u8], from: usize, before: u64, start: Reading, cards: &mut [
                     event = Event::Refused(4);
                     break 'line;
                 }
-                Head::Holds(k) => match place_record(r, cards, k) {
+                Head::Holds(k) => match places::place_record(r, cards, k) {
                     Placed::Misplaced => {
                         event = Event::Refused(5);
                         break 'line;
@@ -294,7 +137,7 @@ pub fn read_on(s: &[u8], from: usize, before: u64, start: Reading, cards: &mut [
                         continue 'line;
                     }
                     Placed::Named => {
-                        let label = read_name(r.free, l);
+                        let label = names::read_name(r.free, l);
                         if label.bad {
                             event = Event::Refused(6);
                             break 'line;
@@ -338,7 +181,7 @@ pub fn read_on(s: &[u8], from: usize, before: u64, start: Reading, cards: &mut [
                                 i += 1;
                                 c = span.next;
                             } else {
-                                let x = take_line(r, item, &values, scan, cards);
+                                let x = taking::take_line(r, item, &values, scan, cards);
                                 let refusal = x.refusal;
                                 if refusal != 0 {
                                     event = Event::Refused(refusal);

@@ -42,29 +42,11 @@ counts c =
       bound = c .most-by .ensures ∙ rw (p .room, c .before .before .way-of .ensures) (most-by (rowOf (x .item)) (x .nq));
     }
 
-start-of-requires : tie.Need-start-of-requires
-start-of-requires c κs = search needs
-
-add-start-of : tie.Need-add-start-of
-add-start-of c = search needs
-
-start-of-requires-2 : tie.Need-start-of-requires-2
-start-of-requires-2 c κs = search needs
-
 sub-room : tie.Need-sub-room
 sub-room c = let p = place c in omega (arith, p .ends)
 
 sub-room-2 : tie.Need-sub-room-2
 sub-room-2 c = let p = place c in omega (arith, p .ends)
-
-way-of-requires : tie.Need-way-of-requires
-way-of-requires c κs = search needs
-
-span-by-requires : tie.Need-span-by-requires
-span-by-requires c κs = search needs
-
-most-by-requires : tie.Need-most-by-requires
-most-by-requires c κs = search needs
 
 mul-take-in : tie.Need-mul-take-in
 mul-take-in c = let p = place (c .before .before .before) in omega (arith, p .ends, p .fits)
@@ -93,9 +75,6 @@ take-in-requires c κs =
       (rw (q, k .bound) (s .pre .1 .1 .heads (x .item)), rw (q, k .bound, region-long (x .item) (x .cards .now) (search needs) (s .pre .1 .1 .long)) (omega arith)),
     )
 
-same-length : tie.Need-same-length
-same-length c = search needs
-
 returns : tie.Need-returns
 returns c =
     let s = c .before .before .before .before .before .before .before .before .before .before .before in
@@ -115,18 +94,18 @@ pub take-values-spec : {M : Type 1} → statement M
 take-values-spec =
     tie.close
     (tie.spec
-    start-of-requires
-    add-start-of
-    start-of-requires-2
+    (λ c κs. search needs)
+    (λ c. search needs)
+    (λ c κs. search needs)
     sub-room
     sub-room-2
-    way-of-requires
-    span-by-requires
-    most-by-requires
+    (λ c κs. search needs)
+    (λ c κs. search needs)
+    (λ c κs. search needs)
     mul-take-in
     sub-take-in
     part-take-in-start
     part-take-in-end
     take-in-requires
-    same-length
+    (λ c. search needs)
     returns)

@@ -4,9 +4,6 @@ use Rattle.records.specs.Rules.{few-places}
 use Rattle.records.proofs.field_at.Statement.{statement}
 use Rattle.records.proofs.field_at.Tie as tie
 
-rule-at-requires : tie.Need-rule-at-requires
-rule-at-requires c κs = search needs
-
 read-field-requires : tie.Need-read-field-requires
 read-field-requires c κs = rw (c .rule-at .ensures) (few-places (c .before .before .args .item) (c .before .before .args .k))
 
@@ -14,4 +11,4 @@ returns : tie.Need-returns
 returns c = rw (c .before .rule-at .ensures) at (c .read-field .ensures)
 
 pub field-at-spec : {M : Type 1} → statement M
-field-at-spec = tie.close (tie.spec rule-at-requires read-field-requires returns)
+field-at-spec = tie.close (tie.spec (λ c κs. search needs) read-field-requires returns)

@@ -7,17 +7,8 @@ use borrow.Author.Needs.{needs}
 use Rattle.records.proofs.named_fields.Statement.{statement}
 use Rattle.records.proofs.named_fields.Tie as tie
 
-mul-wide : tie.Need-mul-wide
-mul-wide c = search needs
-
-array-read-wide : tie.Need-array-read-wide
-array-read-wide c = search needs
-
-wide-requires : tie.Need-wide-requires
-wide-requires c κs = search needs
-
 returns : tie.Need-returns
 returns c = c .wide .ensures ∙ entry (λ (p : ℕ). spanIn (fieldRow p) 0) (suc items) (c .before .args .item) (search needs)
 
 pub named-fields-spec : {M : Type 1} → statement M
-named-fields-spec = tie.close (tie.spec mul-wide array-read-wide wide-requires returns)
+named-fields-spec = tie.close (tie.spec (λ c. search needs) (λ c. search needs) (λ c κs. search needs) returns)

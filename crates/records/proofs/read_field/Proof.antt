@@ -18,29 +18,14 @@ unfilled : (f : List ℕ) → length f ≤ 0 → not (empty f) ≡ false
 unfilled [] h = refl
 unfilled (b ∷ f) h = absurd (omega arith)
 
-enum-told : tie.Need-enum-told
-enum-told c = search needs
-
 returns : tie.Need-returns
 returns c = rw (c .before .enum-told .given .1) (filled (c .before .before .before .before .args .f .now) (c .if1 .taken))
-
-enum-told-2 : tie.Need-enum-told-2
-enum-told-2 c = search needs
-
-enum-known-r : tie.Need-enum-known-r
-enum-known-r c = search needs
 
 read-value-requires : tie.Need-read-value-requires
 read-value-requires c κs = rw (c .before .r .given .1) at (c .before .before .before .before .pre)
 
-limit-value-requires : tie.Need-limit-value-requires
-limit-value-requires c κs = search needs
-
 returns-2 : tie.Need-returns-2
 returns-2 c = rw (c .before .enum-told .given .1) (unfilled (c .before .before .before .before .args .f .now) (c .if1 .left), refl, refl)
-
-returns-3 : tie.Need-returns-3
-returns-3 c = search needs
 
 returns-4 : tie.Need-returns-4
 returns-4 c = rw (c .before .before .before .r .given .1, ← c .before .read-value .ensures) (c .limit-value .ensures)
@@ -49,12 +34,12 @@ pub read-field-spec : {M : Type 1} → statement M
 read-field-spec =
     tie.close
     (tie.spec
-    enum-told
+    (λ c. search needs)
     returns
-    enum-told-2
-    enum-known-r
+    (λ c. search needs)
+    (λ c. search needs)
     read-value-requires
-    limit-value-requires
+    (λ c κs. search needs)
     returns-2
-    returns-3
+    (λ c. search needs)
     returns-4)

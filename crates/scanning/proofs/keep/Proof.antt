@@ -6,15 +6,6 @@ use Rattle.scanning.specs.Pass.{kept}
 use Rattle.scanning.proofs.keep.Statement.{statement}
 use Rattle.scanning.proofs.keep.Tie as tie
 
-mul-values : tie.Need-mul-values
-mul-values c = search needs
-
-slice-write-values : tie.Need-slice-write-values
-slice-write-values c = search needs
-
-same-length : tie.Need-same-length
-same-length c = search needs
-
 returns : tie.Need-returns
 unfolding kept if_then_else_
 returns c = rw (lt-ltb _ _ (c .if1 .taken))
@@ -24,4 +15,4 @@ unfolding kept if_then_else_
 returns-2 c = rw (le-ltb _ _ (c .if1 .left))
 
 pub keep-spec : {M : Type 1} → statement M
-keep-spec = tie.close (tie.spec mul-values slice-write-values same-length returns returns-2)
+keep-spec = tie.close (tie.spec (λ c. search needs) (λ c. search needs) (λ c. search needs) returns returns-2)

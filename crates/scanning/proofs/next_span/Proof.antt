@@ -5,16 +5,10 @@ use borrow.Author.Needs.{needs}
 use Rattle.scanning.proofs.next_span.Statement.{statement}
 use Rattle.scanning.proofs.next_span.Tie as tie
 
-span-at-requires : tie.Need-span-at-requires
-span-at-requires c κs = search needs
-
 returns : tie.Need-returns
 returns c =
     let x = c .before .before .before .args in
     field-turn (formOf (x .free)) (x .l .now) (x .i) (x .c) (c .span-at .result) (c .before .if1 .taken) (c .before .before .before .pre .1) (c .before .before .before .pre .2) (c .span-at .ensures)
-
-blank-span-requires : tie.Need-blank-span-requires
-blank-span-requires c κs = search needs
 
 returns-2 : tie.Need-returns-2
 returns-2 c =
@@ -22,4 +16,4 @@ returns-2 c =
     blank-turn (formOf (x .free)) (x .l .now) (x .i) (x .c) (c .blank-span .result) (c .before .if1 .left) (c .before .before .before .pre .2) (c .blank-span .ensures)
 
 pub next-span-spec : {M : Type 1} → statement M
-next-span-spec = tie.close (tie.spec span-at-requires returns blank-span-requires returns-2)
+next-span-spec = tie.close (tie.spec (λ c κs. search needs) returns (λ c κs. search needs) returns-2)

@@ -6,12 +6,6 @@ use borrow.Author.Needs.{needs}
 use Rattle.scanning.proofs.note.Statement.{statement}
 use Rattle.scanning.proofs.note.Tie as tie
 
-either-requires : tie.Need-either-requires
-either-requires c κs = search needs
-
-add-t7 : tie.Need-add-t7
-add-t7 c = search needs
-
 returns : tie.Need-returns
 unfolding if_then_else_
 returns c = (rw (ne-eqb (c .before .before .args .length) 0 (λ e. absurd (omega arith))), c .before .either .ensures)
@@ -21,4 +15,4 @@ unfolding if_then_else_
 returns-2 c = (rw (eq-eqb (c .before .before .args .length) 0 (omega arith)), c .before .either .ensures)
 
 pub note-spec : {M : Type 1} → statement M
-note-spec = tie.close (tie.spec either-requires add-t7 returns returns-2)
+note-spec = tie.close (tie.spec (λ c κs. search needs) (λ c. search needs) returns returns-2)

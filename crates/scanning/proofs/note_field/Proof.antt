@@ -7,26 +7,8 @@ use borrow.Author.Needs.{needs}
 use Rattle.scanning.proofs.note_field.Statement.{statement}
 use Rattle.scanning.proofs.note_field.Tie as tie
 
-field-at-requires : tie.Need-field-at-requires
-field-at-requires c κs = search needs
-
-enum-told : tie.Need-enum-told
-enum-told c = search needs
-
-enum-known-v : tie.Need-enum-known-v
-enum-known-v c = search needs
-
-keep-requires : tie.Need-keep-requires
-keep-requires c κs = search needs
-
-note-requires : tie.Need-note-requires
-note-requires c κs = search needs
-
 returns : tie.Need-returns
 returns c = (sym (rw (c .enum-told .given .1) at (c .before .before .field-at .ensures)), λ z. absurd (true≢false z))
-
-same-length : tie.Need-same-length
-same-length c = search needs
 
 returns-2 : tie.Need-returns-2
 returns-2 c =
@@ -46,11 +28,11 @@ pub note-field-spec : {M : Type 1} → statement M
 note-field-spec =
     tie.close
     (tie.spec
-    field-at-requires
-    enum-told
-    enum-known-v
-    keep-requires
-    note-requires
+    (λ c κs. search needs)
+    (λ c. search needs)
+    (λ c. search needs)
+    (λ c κs. search needs)
+    (λ c κs. search needs)
     returns
-    same-length
+    (λ c. search needs)
     returns-2)

@@ -7,14 +7,11 @@ use Rattle.fields.specs.Spans.{formOf}
 use Rattle.fields.specs.NameLaws.{NameAt, name-found}
 use Rattle.reading.specs.Labels.{name-short}
 use borrow.Author.Needs.{needs}
-use Rattle.reading.proofs.read_name.Statement.{statement}
-use Rattle.reading.proofs.read_name.Tie as tie
+use Rattle.reading.proofs.names.read_name.Statement.{statement}
+use Rattle.reading.proofs.names.read_name.Tie as tie
 
 found : (c : tie.After-name-span) → NameAt (formOf (c .before .before .args .free)) (c .before .before .args .l .now) (c .name-span .result)
 found c = name-found (formOf (c .before .before .args .free)) (c .before .before .args .l .now) (c .before .before .pre) (c .name-span .result) (c .name-span .ensures)
-
-name-span-requires : tie.Need-name-span-requires
-name-span-requires c κs = search needs
 
 sub-f : tie.Need-sub-f
 sub-f c = let n = found c in omega arith
@@ -24,12 +21,6 @@ part-f-start c = let n = found c in omega arith
 
 part-f-end : tie.Need-part-f-end
 part-f-end c = let n = found c in omega arith
-
-bad-name-requires : tie.Need-bad-name-requires
-bad-name-requires c κs = search needs
-
-no-name-requires : tie.Need-no-name-requires
-no-name-requires c κs = search needs
 
 returns : tie.Need-returns
 returns c =
@@ -50,12 +41,12 @@ pub read-name-spec : {M : Type 1} → statement M
 read-name-spec =
     tie.close
     (tie.spec
-    name-span-requires
+    (λ c κs. search needs)
     sub-f
     part-f-start
     part-f-end
-    bad-name-requires
-    no-name-requires
+    (λ c κs. search needs)
+    (λ c κs. search needs)
     returns
     copy-name-requires
     returns-2)
