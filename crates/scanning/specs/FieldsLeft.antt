@@ -1,6 +1,6 @@
 -- The fields of a line that a pass has still to note: those from its place on, and blank ones up to as many as the record names.
 --     leftFields       these fields
---     left-turn        one field noted takes the first of them off
+--     span-turn        one field noted takes the first of them off
 --     left-none        none are left
 --     left-first       at the start they are the line's fields with blank ones behind
 use Prim.Native.Nat.{ℕ, suc, _+_, _-_, _*_, _≤_, _<_}
@@ -35,6 +35,10 @@ abbrev pub blankSpan : Form → ℕ → ℕ → Span
 blankSpan Free i c = record { from = 0; to = 0; next = c }
 blankSpan Fixed i c = record { from = 0; to = 0; next = 8 * i + 8 }
 
+-- field i, looked for at c
+abbrev pub nextSpan : Form → List ℕ → ℕ → ℕ → Span
+nextSpan form l i c = if c <? length l then spanAt form l i c else blankSpan form i c
+
 -- One field noted: it is the first of those left, and the pass goes on behind it.
 pub record SpanTurn (form : Form) (l : List ℕ) (i c : ℕ) (r : Span) : Type 0 where
   pub begins : r .from ≤ r .to
@@ -46,7 +50,7 @@ pub record SpanTurn (form : Form) (l : List ℕ) (i c : ℕ) (r : Span) : Type 0
       → leftFields form named i c l ≡ part (r .from) (r .to - r .from) l ∷ leftFields form named (i + 1) (r .next) l
 
 -- a field of the line
-pub field-turn : (form : Form) (l : List ℕ) (i c : ℕ) (r : Span) → c < length l → length l ≤ 80 → Stands form l i c → r ≡ spanAt form l i c → SpanTurn form l i c r
+field-turn : (form : Form) (l : List ℕ) (i c : ℕ) (r : Span) → c < length l → length l ≤ 80 → Stands form l i c → r ≡ spanAt form l i c → SpanTurn form l i c r
 field-turn form l i c r h short s e =
     let t = turn form l i c r h short s e in
     record {
@@ -78,7 +82,7 @@ not-inside : (n c i named : ℕ) → n ≤ c → leftBy n c i named ≡ true →
 unfolding if_then_else_
 not-inside n c i named h e = ltb-true i named (rw (le-ltb c n h) at e)
 
-pub blank-turn : (form : Form) (l : List ℕ) (i c : ℕ) (r : Span) → length l ≤ c → Stands form l i c → r ≡ blankSpan form i c → SpanTurn form l i c r
+blank-turn : (form : Form) (l : List ℕ) (i c : ℕ) (r : Span) → length l ≤ c → Stands form l i c → r ≡ blankSpan form i c → SpanTurn form l i c r
 blank-turn form l i c r h s e =
     let none = fields-done form l i c h s in
     let b = blank-begins form i c in
@@ -100,6 +104,14 @@ blank-turn form l i c r h s e =
           let zero-part : r .to - r .from ≡ 0 = omega arith in
           rw (none, later, n, zero-part));
     }
+
+pub span-turn : (form : Form) (l : List ℕ) (i c : ℕ) (r : Span) → length l ≤ 80 → Stands form l i c → r ≡ nextSpan form l i c → SpanTurn form l i c r
+unfolding if_then_else_
+span-turn form l i c r short s e =
+    ⊎-elim
+    (λ (h : c < length l). field-turn form l i c r h short s (rw (lt-ltb c (length l) h) at e))
+    (λ (h : length l ≤ c). blank-turn form l i c r h s (rw (le-ltb c (length l) h) at e))
+    (below-or-not c (length l))
 
 -- none are left
 pub left-none : (form : Form) (named : ℕ) (l : List ℕ) (i c : ℕ) → Stands form l i c → leftBy (length l) c i named ≡ false → leftFields form named i c l ≡ []

@@ -1,6 +1,6 @@
 // One pass over a line's fields: each is found, held against its record's rule, and its value kept, so that refusals 6 to 8 and the block's values need no second look.
 ghost use mathlib.Core.Path.{_≡_};
-ghost use mathlib.Core.Bool.{false, _||_};
+ghost use mathlib.Core.Bool.{true, false, _||_};
 ghost use Prim.Native.Nat.{_+_, _≤_};
 ghost use lib.ListN.{length};
 ghost use Rattle.meaning.specs.Words.{if_then_else_};
@@ -9,7 +9,7 @@ ghost use Rattle.fields.specs.Spans.{formOf, Stands};
 ghost use Rattle.records.specs.Rows.{rulesBy};
 ghost use Rattle.scanning.specs.Pass.{kept, noted};
 ghost use Rattle.scanning.specs.Scans.{scannedOf, blankBy};
-ghost use Rattle.scanning.specs.FieldsLeft.{leftBy, blankSpan, SpanTurn};
+ghost use Rattle.scanning.specs.FieldsLeft.{leftBy, blankSpan, nextSpan};
 use fields::Span;
 use records::Field;
 
@@ -67,6 +67,7 @@ pub fn note_field(values: &mut [u64], scan: Scan, item: usize, k: usize, f: &[u8
     requires { ⌜ (k ≤ 100) × (length (now values) ≡ 10) ⌝ }
     ensures { λ r. ⌜ r .faulty ≡ faultyField (ruleAt (rulesBy item) k) (now (f .entry)) ⌝ }
     ensures { λ r. ⌜ (r .faulty ≡ false → scannedOf (now (values .exit)) (r .scan) ≡ noted (rulesBy item) k (now (f .entry)) (scannedOf (now (values .entry)) scan)) ⌝ }
+    ensures { λ r. ⌜ (r .faulty ≡ true → scannedOf (now (values .exit)) (r .scan) ≡ scannedOf (now (values .entry)) scan) ⌝ }
 {
     match records::field_at(item, k, f) {
         Field::Faulty => Noted {
@@ -115,7 +116,7 @@ fn blank_span(free: bool, i: usize, c: usize) -> Span
 // Field `i` of a line, looked for at `c`; past the line's end it is blank.
 pub fn next_span(free: bool, l: &[u8], i: usize, c: usize) -> Span
     requires { ⌜ (i ≤ 100) × (length (now l) ≤ 80) × Stands (formOf free) (now l) i c ⌝ }
-    ensures { λ r. ⌜ SpanTurn (formOf free) (now (l .entry)) i c r ⌝ }
+    ensures { λ r. ⌜ r ≡ nextSpan (formOf free) (now (l .entry)) i c ⌝ }
 {
     if c < l.len() {
         return fields::span_at(free, l, i, c);

@@ -1,0 +1,223 @@
+-- The points of the walk over lines, and what is known at each: the two invariants, a line that passed 3, its head, its record placed, its fields begun, a field
+-- left, none left, its name read.
+use Prim.Native.Nat.{ℕ, _+_, _-_, _≤_, zero-le}
+use mathlib.Core.Path.{_≡_, refl, sym, ap, _∙_}
+use mathlib.Core.Bool.{Bool, true, false}
+use mathlib.Core.List.{List, []}
+use native.Mathlib.Omega.{arith}
+use lib.ListN.{length, drop}
+use Rattle.sequences.specs.Parts.{part, length-part}
+use Rattle.meaning.specs.Lines.{linesOf}
+use Rattle.meaning.specs.Fields.{Form, fieldsOf, nameIn}
+use Rattle.meaning.specs.Records.{Item, anyFaulty}
+use Rattle.meaning.specs.Run as run
+use Rattle.meaning.specs.Run.{Refuse, Go, unless, readLine, readRecord}
+use Rattle.lines.specs.First.{FairAt, fair-line}
+use Rattle.fields.specs.Spans.{formOf, firstPlace, Stands}
+use Rattle.identifiers.specs.Heads.{recordIs}
+use Rattle.records.specs.Rows.{fieldRow, rulesBy, spanIn, span-few}
+use Rattle.limits.specs.ReadOn.{Found, Met, readOn}
+use Rattle.scanning.specs.declared.Scan.{Scan}
+use Rattle.scanning.specs.Pass.{scanFrom}
+use Rattle.scanning.specs.Scans.{scannedOf}
+use Rattle.scanning.specs.WholeLine.{LineRead}
+use Rattle.scanning.specs.FieldsLeft.{SpanTurn, span-turn, leftBy, leftFields, left-none, left-few}
+use Rattle.blocks.specs.declared.Name.{Name}
+use Rattle.reading.specs.declared.Event as events
+use Rattle.reading.specs.declared.Event.the-variants as event
+use Rattle.reading.specs.declared.Reading.{Reading}
+use Rattle.reading.specs.Readings.{readingIs, Ready}
+use Rattle.reading.specs.Places.{Due, nameEvent, fieldsEvent}
+use Rattle.reading.specs.Found.{Onward}
+use Rattle.reading.specs.AtLine.{AtLine, refuses, line-record, pass-read, form-in}
+use Rattle.reading.proofs.read_on.Tie as tie
+
+pub record Lines (s : List ℕ) (from before : ℕ) (cards₀ : List ℕ) (r₀ : Reading) (cards : List ℕ) (at n : ℕ) (r : Reading) (e : events.Event) (name : Name) (values : List ℕ) : Type 0 where
+  pub up : at ≤ length s
+  pub forth : from ≤ at
+  pub counted : n ≤ at
+  pub waiting : e ≡ event.Missing
+  pub ready : Ready r cards
+  pub long : length cards ≡ length cards₀
+  pub ten : length values ≡ 10
+  pub letters : name .letters ≤ 6
+  pub done : readOn (linesOf (drop at s)) (readingIs r cards) (n + 1) ≡ readOn (linesOf (drop from s)) (readingIs r₀ cards₀) (before + 1)
+
+pub record Fields (item : Item) (free : Bool) (named : ℕ) (l : List ℕ) (c₀ : ℕ) (values₀ : List ℕ) (scan₀ : Scan) (values : List ℕ) (c i : ℕ) (scan : Scan) : Type 0 where
+  pub ten : length values ≡ 10
+  pub stands : Stands (formOf free) l i c
+  pub near : i ≤ c + 10
+  pub faults : anyFaulty (rulesBy item) i (leftFields (formOf free) named i c l) ≡ anyFaulty (rulesBy item) 0 (leftFields (formOf free) named 0 c₀ l)
+  pub scans : scanFrom (rulesBy item) i (leftFields (formOf free) named i c l) (scannedOf values scan)
+      ≡ scanFrom (rulesBy item) 0 (leftFields (formOf free) named 0 c₀ l) (scannedOf values₀ scan₀)
+
+abbrev pub Inv-loop : tie.InvT-loop
+Inv-loop s from before cards₀ at n r₀ event₀ name values₀ begin end fair l item free named c₀ i₀ scan₀ cards r event values c i scan =
+    (cards ≡ cards₀) × (r ≡ r₀) × (event ≡ event₀) × Fields item free named l c₀ values₀ scan₀ values c i scan
+
+abbrev pub μ-loop : tie.MeasureT-loop
+μ-loop s from before cards₀ at n r₀ event₀ name values₀ begin end fair l item free named c₀ i₀ scan₀ cards r event values c i scan =
+    (length l - c) + (named - i)
+
+abbrev pub Inv-line : tie.InvT-line
+Inv-line s from before cards₀ at₀ n₀ r₀ event₀ name₀ values₀ cards at n r event name values =
+    Lines s from before cards₀ r₀ cards at n r event name values
+
+abbrev pub μ-line : tie.MeasureT-line
+μ-line s from before cards₀ at₀ n₀ r₀ event₀ name₀ values₀ cards at n r event name values = length s - at
+
+-- THE POINTS OF THE WALK: a line that passed 3, its head, its record placed, its fields begun, a field left, none left; its name read.
+abbrev pub Fair : Type 0
+Fair = tie.Then1 Inv-loop μ-loop Inv-line μ-line
+
+abbrev pub Headed : Type 0
+Headed = tie.After-head-of Inv-loop μ-loop Inv-line μ-line
+
+abbrev pub Stood : Type 0
+Stood = tie.After-place-record Inv-loop μ-loop Inv-line μ-line
+
+abbrev pub Listing : Type 0
+Listing = tie.After-known-told3 Inv-loop μ-loop Inv-line μ-line
+
+abbrev pub at-line : Fair → tie.At-line Inv-loop μ-loop Inv-line μ-line
+at-line c = c .before .before .before
+
+abbrev pub deck : Fair → List ℕ
+deck c = c .before .before .before .before .before .before .before .args .s .now
+
+abbrev pub end : Fair → ℕ
+end c = c .before .line-at .result .end
+
+abbrev pub next : Fair → ℕ
+next c = c .before .line-at .result .next
+
+abbrev pub text : Fair → List ℕ
+text c = part (at-line c .line .at) (end c - at-line c .line .at) (deck c)
+
+abbrev pub stood : Fair → run.Reading
+stood c = readingIs (at-line c .line .r) (at-line c .line .cards)
+
+abbrev pub sought : Fair → Found
+sought c = readOn (linesOf (drop (c .before .before .before .before .before .before .before .args .from) (deck c))) (readingIs (c .before .before .before .before .before .before .before .args .start) (c .before .before .before .before .before .before .before .args .cards .now)) (c .before .before .before .before .before .before .before .args .before + 1)
+
+abbrev pub item-at : Listing → Item
+item-at c = c .before .item .given .0 .0
+
+abbrev pub form-at : Fair → Form
+form-at c = formOf (at-line c .line .r .free)
+
+pub fair : (c : Fair) → FairAt (deck c) (at-line c .line .at) (end c) (next c)
+fair c = fair-line (deck c) (at-line c .line .at) (c .before .line-at .result) (omega arith) (c .before .line-at .ensures) (c .if1 .taken)
+
+pub turn : (c : Fair) → AtLine (deck c) (at-line c .line .at) (end c) (next c) (at-line c .line .n) (stood c) (sought c)
+turn c = record { fair = fair c; so-far = at-line c .line .inv .done }
+
+pub short : (c : Fair) → length (text c) ≤ 80
+short c =
+    let f = fair c in
+    let n : at-line c .line .at + (end c - at-line c .line .at) ≤ length (deck c) = omega arith in
+    omega (arith, length-part (at-line c .line .at) (end c - at-line c .line .at) (deck c) n)
+
+-- the next line's turn
+pub moved : (c : Fair) (r : Reading) (cards values : List ℕ) (e : events.Event) → Ready r cards → length cards ≡ length (at-line c .line .cards) → e ≡ event.Missing → length values ≡ 10
+    → readOn (linesOf (drop (next c) (deck c))) (readingIs r cards) (at-line c .line .n + 1 + 1) ≡ sought c
+    → Lines (deck c) (c .before .before .before .before .before .before .before .args .from) (c .before .before .before .before .before .before .before .args .before) (c .before .before .before .before .before .before .before .args .cards .now) (c .before .before .before .before .before .before .before .args .start) cards (next c) (at-line c .line .n + 1) r e (at-line c .line .name) values
+moved c r cards values e ready long waiting ten done =
+    let o = at-line c .line .inv in
+    let f = fair c in
+    record {
+      up = f .within;
+      forth = omega (arith, o .forth, f .goes-on);
+      counted = omega (arith, o .counted, f .goes-on);
+      waiting = waiting;
+      ready = ready;
+      long = long ∙ o .long;
+      ten = ten;
+      letters = o .letters;
+      done = done;
+    }
+
+-- a line that is refused, and one behind which the reading may go on
+pub refused : (c : Fair) (number : ℕ) → readLine (stood c) (text c) ≡ Refuse number
+    → (q : run.Reading) × (later : List (List ℕ)) × (sought c ≡ Met (Refuse number) q (at-line c .line .n + 1) later)
+refused c number e = (_, _, refuses (turn c) number e)
+
+pub onward : (c : Fair) (e : events.Event) (name : Name) → name .letters ≤ 6
+    → Onward (deck c) (c .before .before .before .before .before .before .before .args .from) (record { event = e; reading = at-line c .line .r; name = name; at = next c; line = at-line c .line .n + 1 }) (at-line c .line .cards)
+onward c e name few =
+    let o = at-line c .line .inv in
+    let f = fair c in
+    record { ready = o .ready; within = f .within; forth = omega (arith, o .forth, f .goes-on); counted = omega (arith, o .counted, f .goes-on); letters = few }
+
+-- it holds a record
+pub holds : (c : Stood) → readLine (stood (c .before .before .before .before .before .before .before)) (text (c .before .before .before .before .before .before .before)) ≡ readRecord (stood (c .before .before .before .before .before .before .before)) (text (c .before .before .before .before .before .before .before)) (recordIs (c .before .before .before .k .given .0 .0))
+holds c = line-record (turn (c .before .before .before .before .before .before .before)) (c .before .before .before .before .before .head-of .result) (c .before .before .before .k .given .0 .0) (c .before .before .before .before .before .head-of .ensures .0) (c .before .before .before .k .given .1)
+
+-- with a name
+pub named : (c : tie.After-read-name Inv-loop μ-loop Inv-line μ-line) → readLine (stood (c .before .before .before .before .before .before .before .before .before .before)) (text (c .before .before .before .before .before .before .before .before .before .before)) ≡ nameEvent (stood (c .before .before .before .before .before .before .before .before .before .before)) (nameIn (form-at (c .before .before .before .before .before .before .before .before .before .before)) (text (c .before .before .before .before .before .before .before .before .before .before)))
+named c =
+    let x = at-line (c .before .before .before .before .before .before .before .before .before .before) .line in
+    let stand = rw (c .before .enum-told4 .given .1) at (c .before .before .before .place-record .ensures .0) in
+    holds (c .before .before .before) ∙ stand _ ∙ ap (λ (form : Form). nameEvent (stood (c .before .before .before .before .before .before .before .before .before .before)) (nameIn form (text (c .before .before .before .before .before .before .before .before .before .before)))) (form-in (x .r) (x .cards))
+
+-- with fields, which are due where the reading stands
+pub due : (c : Listing) → Due (at-line (c .before .before .before .before .before .before .before .before .before .before) .line .r .phase) (item-at c) (at-line (c .before .before .before .before .before .before .before .before .before .before) .line .cards)
+due c = rw (c .before .item .given .1) at (c .before .before .before .place-record .ensures .1)
+
+pub did : (c : Listing) → readLine (stood (c .before .before .before .before .before .before .before .before .before .before)) (text (c .before .before .before .before .before .before .before .before .before .before)) ≡ fieldsEvent (item-at c) (stood (c .before .before .before .before .before .before .before .before .before .before)) (fieldsOf (form-at (c .before .before .before .before .before .before .before .before .before .before)) (text (c .before .before .before .before .before .before .before .before .before .before)))
+did c =
+    let x = at-line (c .before .before .before .before .before .before .before .before .before .before) .line in
+    let stand = rw (c .before .item .given .1) at (c .before .before .before .place-record .ensures .0) in
+    holds (c .before .before .before) ∙ stand _ ∙ ap (λ (form : Form). fieldsEvent (item-at c) (stood (c .before .before .before .before .before .before .before .before .before .before)) (fieldsOf form (text (c .before .before .before .before .before .before .before .before .before .before)))) (form-in (x .r) (x .cards))
+
+-- all its fields, as the pass begins
+abbrev pub all-fields : Listing → List (List ℕ)
+all-fields c = leftFields (form-at (c .before .before .before .before .before .before .before .before .before .before)) (spanIn (fieldRow (item-at c)) 0) 0 (firstPlace (form-at (c .before .before .before .before .before .before .before .before .before .before)) (text (c .before .before .before .before .before .before .before .before .before .before))) (text (c .before .before .before .before .before .before .before .before .before .before))
+
+-- A FIELD IS LEFT
+abbrev pub Left : Type 0
+Left = tie.Then3 Inv-loop μ-loop Inv-line μ-line
+
+pub more : (c : Left) → leftBy (length (text (c .before .before .before .before .before .before .before .before .before .before .before .before .before .before .before))) (c .before .before .loop .c) (c .before .before .loop .i) (c .before .before .before .before .named-fields .result) ≡ true
+more c = sym (c .before .is-left .ensures) ∙ c .if3 .taken
+
+pub few : (c : Left) → c .before .before .before .before .named-fields .result ≤ 10
+few c = rw (c .before .before .before .before .named-fields .ensures) (span-few (item-at (c .before .before .before .before .before)) 0 zero-le)
+
+pub small : (c : Left) → c .before .before .loop .i ≤ 90
+small c = left-few (length (text (c .before .before .before .before .before .before .before .before .before .before .before .before .before .before .before))) (c .before .before .loop .c) (c .before .before .loop .i) (c .before .before .before .before .named-fields .result) (short (c .before .before .before .before .before .before .before .before .before .before .before .before .before .before .before)) (c .before .before .loop .inv .3 .near) (few c) (more c)
+
+pub spanned : (c : tie.After-next-span Inv-loop μ-loop Inv-line μ-line)
+    → SpanTurn (form-at (c .before .before .before .before .before .before .before .before .before .before .before .before .before .before .before .before)) (text (c .before .before .before .before .before .before .before .before .before .before .before .before .before .before .before .before)) (c .before .before .before .loop .i) (c .before .before .before .loop .c) (c .next-span .result)
+spanned c =
+    let p = c .before .before .before .before .before .before .before .before .before .before .before .before .before .before .before .before in
+    let l = c .before .before .before .loop in
+    span-turn (form-at p) (text p) (l .i) (l .c) (c .next-span .result) (short p) (l .inv .3 .stands) (c .next-span .ensures)
+
+-- NONE IS LEFT: the pass has read the line
+abbrev pub None : Type 0
+None = tie.Else3 Inv-loop μ-loop Inv-line μ-line
+
+pub none-left : (c : None) → leftFields (form-at (c .before .before .before .before .before .before .before .before .before .before .before .before .before .before .before)) (c .before .before .before .before .named-fields .result) (c .before .before .loop .i) (c .before .before .loop .c) (text (c .before .before .before .before .before .before .before .before .before .before .before .before .before .before .before)) ≡ []
+none-left c =
+    left-none (form-at (c .before .before .before .before .before .before .before .before .before .before .before .before .before .before .before)) (c .before .before .before .before .named-fields .result) (text (c .before .before .before .before .before .before .before .before .before .before .before .before .before .before .before)) (c .before .before .loop .i) (c .before .before .loop .c) (c .before .before .loop .inv .3 .stands) (sym (c .before .is-left .ensures) ∙ c .if3 .left)
+
+pub read : (c : None) → LineRead (fieldRow (item-at (c .before .before .before .before .before))) (fieldsOf (form-at (c .before .before .before .before .before .before .before .before .before .before .before .before .before .before .before)) (text (c .before .before .before .before .before .before .before .before .before .before .before .before .before .before .before))) (scannedOf (c .before .before .loop .values) (c .before .before .loop .scan))
+unfolding anyFaulty scanFrom
+read c =
+    let v = c .before .before .loop .inv .3 in
+    let rules = rulesBy (item-at (c .before .before .before .before .before)) in
+    let start = scannedOf (at-line (c .before .before .before .before .before .before .before .before .before .before .before .before .before .before .before) .line .values) (record { count = 0; outside = false }) in
+    let faults : false ≡ anyFaulty rules 0 (all-fields (c .before .before .before .before .before)) = rw (none-left c, c .before .before .before .before .named-fields .ensures, c .before .before .before .first-place .ensures) at (v .faults) in
+    let scans : scannedOf (c .before .before .loop .values) (c .before .before .loop .scan) ≡ scanFrom rules 0 (all-fields (c .before .before .before .before .before)) start =
+    rw (none-left c, c .before .before .before .before .named-fields .ensures, c .before .before .before .first-place .ensures) at (v .scans) in
+    rw scans (pass-read (item-at (c .before .before .before .before .before)) (form-at (c .before .before .before .before .before .before .before .before .before .before .before .before .before .before .before)) (text (c .before .before .before .before .before .before .before .before .before .before .before .before .before .before .before)) start (record { none = refl; inside = refl; ten = at-line (c .before .before .before .before .before .before .before .before .before .before .before .before .before .before .before) .line .inv .ten }) (sym faults))
+
+-- what taking it does, seen from where the line began
+pub taken : (c : None) (refusal : ℕ) (after : run.Reading) (r : Reading) (cards : List ℕ) → r ≡ at-line (c .before .before .before .before .before .before .before .before .before .before .before .before .before .before .before) .line .r → cards ≡ at-line (c .before .before .before .before .before .before .before .before .before .before .before .before .before .before .before) .line .cards
+    → unless refusal (Go after) ≡ fieldsEvent (item-at (c .before .before .before .before .before)) (readingIs r cards) (fieldsOf (form-at (c .before .before .before .before .before .before .before .before .before .before .before .before .before .before .before)) (text (c .before .before .before .before .before .before .before .before .before .before .before .before .before .before .before))) → readLine (stood (c .before .before .before .before .before .before .before .before .before .before .before .before .before .before .before)) (text (c .before .before .before .before .before .before .before .before .before .before .before .before .before .before .before)) ≡ unless refusal (Go after)
+taken c refusal after r cards e₁ e₂ h =
+    did (c .before .before .before .before .before)
+    ∙ sym (h ∙ ap (λ (q : Reading). fieldsEvent (item-at (c .before .before .before .before .before)) (readingIs q cards) (fieldsOf (form-at (c .before .before .before .before .before .before .before .before .before .before .before .before .before .before .before)) (text (c .before .before .before .before .before .before .before .before .before .before .before .before .before .before .before)))) e₁
+    ∙ ap (λ (w : List ℕ). fieldsEvent (item-at (c .before .before .before .before .before)) (readingIs (at-line (c .before .before .before .before .before .before .before .before .before .before .before .before .before .before .before) .line .r) w) (fieldsOf (form-at (c .before .before .before .before .before .before .before .before .before .before .before .before .before .before .before)) (text (c .before .before .before .before .before .before .before .before .before .before .before .before .before .before .before)))) e₂)
+
