@@ -2,16 +2,15 @@
 --     cardIn, blockOf     a region's card and the words' block; values behind the count are scratch
 --     Counted                no head counts more values than its record may have
 --     Takes               a line's values taken, or refused by 8
-use Prim.Native.Nat.{ℕ, zero, suc, _+_, _≤_, _<_, zero-le}
-use mathlib.Core.Path.{_≡_, refl, sym, _∙_, ap}
-use mathlib.Core.Bool.{Bool, true, false}
-use mathlib.Core.List.{List, [], _∷_, _++_, map}
+use Prim.Native.Nat.{ℕ, zero, suc, _≤_, zero-le}
+use mathlib.Core.Path.{_≡_}
+use mathlib.Core.List.{List, [], _∷_, map}
 use native.Mathlib.Omega.{arith}
-use lib.ListN.{length, take, getD, set}
-use Rattle.meaning.specs.Words.{_<?_, met}
+use lib.ListN.{length, take, getD}
+use Rattle.meaning.specs.Words.{met}
 use Rattle.meaning.specs.Records.{table, Item, rowOf}
 use Rattle.records.specs.Rows.{roomOf, wordsOf, mostIn}
-use Rattle.meaning.specs.Blocks.{Card, Absent, Given, isGiven, valuesOf, Block, Time, tooMany, withValues}
+use Rattle.meaning.specs.Blocks.{Card, Absent, Given, Block, Time, tooMany, withValues}
 use Rattle.blocks.specs.Regions.{regionsOf}
 
 unfoldable pub regions : List ℕ → List (List ℕ)

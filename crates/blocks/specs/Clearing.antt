@@ -1,6 +1,6 @@
 -- The heads set to 0, one after the other: no record is there.
 use Prim.Native.Nat.{ℕ, zero, suc, _+_, _≤_, _<_, zero-le}
-use mathlib.Core.Path.{_≡_, refl, sym, _∙_, ap}
+use mathlib.Core.Path.{_≡_, refl, _∙_, ap}
 use mathlib.Core.Bool.{Bool, true, false}
 use mathlib.Core.List.{List, [], _∷_, map}
 use native.Mathlib.Omega.{arith}
@@ -10,9 +10,9 @@ use lib.Seq.{getD-set-same, getD-set-other}
 use Rattle.sequences.specs.Choices.{below-or-not}
 use mathlib.Core.Logic.{⊎-elim}
 use Rattle.meaning.specs.Words.{_=?_}
-use Rattle.meaning.specs.Records.{table, Item, rowOf}
+use Rattle.meaning.specs.Records.{table, Item}
 use Rattle.meaning.specs.Blocks.{Card, Absent, opened}
-use Rattle.records.specs.Rows.{items, mostIn, start, wordsOf}
+use Rattle.records.specs.Rows.{items, start, wordsOf}
 use Rattle.blocks.specs.Regions.{regions-set}
 use Rattle.blocks.specs.Cards.{regions, regionOf, headIn, cardIn, blockOf, Counted}
 use Rattle.blocks.specs.Taking.{named, all-regions}

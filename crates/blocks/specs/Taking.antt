@@ -1,20 +1,20 @@
 -- A line's values taken into a region: what that makes of the card, of the block and of the heads. One law for every record.
-use Prim.Native.Nat.{ℕ, zero, suc, _+_, _≤_, _<_, zero-le}
+use Prim.Native.Nat.{ℕ, zero, suc, _+_, _≤_, _<_}
 use mathlib.Core.Path.{_≡_, refl, sym, _∙_, ap}
 use mathlib.Core.Bool.{Bool, true, false, _&&_, not, true≢false}
 use mathlib.Core.List.{List, [], _∷_, _++_, map}
 use native.Mathlib.Nat.{suc-add}
 use native.Mathlib.Omega.{arith}
 use borrow.Author.Tests.{eqb-true, eqb-false, le-ltb, ltb-false}
-use lib.ListN.{length, take, getD, set, length-append, length-set, List·getD-map}
+use lib.ListN.{length, take, getD, set, length-append, List·getD-map}
 use lib.Seq.{paste, take-paste, length-paste, length-take-le, getD-set-same, getD-set-other, set-getD}
 use Rattle.sequences.specs.Parts.{part, put, length-part, length-put}
 use Rattle.meaning.specs.Words.{_=?_, _<?_, if_then_else_, met}
 use Rattle.meaning.specs.Records.{UpTo, UpToNQ, Row, Once, Listed, table, Item, rowOf, listsIn}
-use Rattle.meaning.specs.Blocks.{Card, Absent, Given, isGiven, valuesOf, Block, Time, cardOf, overBy, tooMany, repeated, withValues}
-use Rattle.records.specs.Rows.{items, most-fits, mostIn, roomIn, roomOf, spanIn, start, start-fits, wordsOf}
+use Rattle.meaning.specs.Blocks.{Card, Absent, Given, isGiven, valuesOf, Block, Time, cardOf, overBy, tooMany, repeated}
+use Rattle.records.specs.Rows.{items, most-fits, mostIn, roomOf, spanIn, start, start-fits, wordsOf}
 use Rattle.blocks.specs.Regions.{length-regions, regions-at, regions-put}
-use Rattle.blocks.specs.Cards.{regions, regionOf, headIn, countBy, cardIn, blockOf, Counted, blockAfter, Takes, count-low}
+use Rattle.blocks.specs.Cards.{regions, regionOf, headIn, countBy, cardIn, blockOf, Counted, Takes, count-low}
 
 -- the card of a record is that of its region
 pub card-at : (item : Item) (name w : List ℕ) → cardOf item (blockOf name w) ≡ cardIn (regionOf item w)

@@ -11,7 +11,7 @@ use lib.ListN.{length, replicate, length-append, length-replicate}
 use Rattle.sequences.specs.Choices.{taken, below-or-not}
 use Rattle.sequences.specs.Parts.{part, put}
 use Rattle.meaning.specs.Blocks.{Time, Block, Held, total}
-use Rattle.meaning.specs.Results.{Result, recordOf}
+use Rattle.meaning.specs.Results.{Result, recordOf, recordSize}
 use Rattle.meaning.specs.Run.{heldFor, heldAfter, namedFlow}
 use Rattle.stack.specs.declared.Stack.{Stack}
 use Rattle.stack.specs.View.{Fits, view, noneHeld, length-held}
@@ -30,7 +30,7 @@ pub record Carried (named nq n m : ℕ) (rs : List Result) (ordinates records : 
   pub n-long : length ordinates ≡ n
   pub m-long : length records ≡ m
   pub flow : ordinates ≡ ordinatesFor named nq n rs
-  pub told : 32 * length rs ≤ m → records ≡ recordsIn m rs
+  pub told : recordSize * length rs ≤ m → records ≡ recordsIn m rs
 
 pub carried-none : (named nq n m : ℕ) → Carried named nq n m [] (replicate n 0) (replicate m 0)
 carried-none named nq n m =
@@ -61,8 +61,8 @@ module _ {τ : Time} {b : Block} {s : Stack} {named : ℕ} {n m : ℕ} (rs : Lis
             ∙ ordinates-more named (τ .ordinates) n rs next (so-far .n-long) (so-far .flow);
         told = λ room.
             er ∙ ap (λ (q : List ℕ). recordPut (length rs) q records) (told-record closes none)
-            ∙ sym (taken _ (le-leb (32 * length rs + 32) (length records) (omega (arith, so-far .m-long))) refl)
-            ∙ ap (λ (z : List ℕ). put (32 * length rs) 32 z (recordOf next)) (so-far .told (omega arith))
+            ∙ sym (taken _ (le-leb (recordSize * length rs + recordSize) (length records) (omega (arith, so-far .m-long))) refl)
+            ∙ ap (λ (z : List ℕ). put (recordSize * length rs) recordSize z (recordOf next)) (so-far .told (omega arith))
             ∙ record-more m rs next (so-far .names) short;
       }
 

@@ -8,7 +8,7 @@ use lib.ListN.{length, drop}
 use Rattle.sequences.specs.Parts.{part, put}
 use Rattle.meaning.specs.Words.{_=?_, _≤?_, if_then_else_}
 use Rattle.meaning.specs.Blocks.{Time, Block, kindOf}
-use Rattle.meaning.specs.Results.{Result, recordOf}
+use Rattle.meaning.specs.Results.{Result, recordOf, recordSize}
 use Rattle.meaning.specs.Run.{heldFor, closingRefusal}
 use Rattle.stack.specs.declared.Stack.{Stack}
 use Rattle.stack.specs.View.{view}
@@ -21,9 +21,9 @@ use Rattle.closing.specs.ClosedBlock.{Closes, closedBlock, answer-number
 abbrev pub recordTold : (name : List ℕ) → Closed → List ℕ
 recordTold name c = recordBytes name (c .kind) (c .area) (c .summary .peak) (c .summary .interval) (c .summary .sum)
 
--- 32 bytes as the record of block k, counted from 0, where they fit
+-- the record of block k, counted from 0, where they fit
 abbrev pub recordPut : (k : ℕ) → (bytes records : List ℕ) → List ℕ
-recordPut k bytes records = if (32 * k + 32) ≤? length records then put (32 * k) 32 records bytes else records
+recordPut k bytes records = if (recordSize * k + recordSize) ≤? length records then put (recordSize * k) recordSize records bytes else records
 
 -- a flow of nq ordinates in front, where it fits
 abbrev pub copiedFirst : (nq : ℕ) → (flow ordinates : List ℕ) → List ℕ

@@ -105,7 +105,7 @@ fn write_record(records: &mut [u8], k: usize, name: Name, closed: Closed)
     requires { ⌜ (k ≤ 199) × (name .letters ≤ 6) ⌝ }
     ensures { λ _. ⌜ now (records .exit) ≡ recordPut k (recordTold (nameIs name) closed) (now (records .entry)) ⌝ }
 {
-    if records.len() < 32 * k + 32 {
+    if records.len() < results::RECORD * k + results::RECORD {
         return;
     }
     let bytes = name.bytes;

@@ -2,12 +2,13 @@
 --     answerIs, outcomeIs, lentAs     the answer, what comes back, and the lengths of what was lent
 --     refused-as, accepted-as         the outcome where the deck is refused and where it is accepted
 use Prim.Native.Nat.{ℕ, _-_, _*_, _≤_}
-use mathlib.Core.Path.{_≡_, refl, sym, _∙_}
-use mathlib.Core.Bool.{Bool, true, false, _||_, false≢true}
+use mathlib.Core.Path.{_≡_, _∙_}
+use mathlib.Core.Bool.{Bool, true, false, _||_}
 use mathlib.Core.List.{List}
 use borrow.Author.Tests.{ltb-false}
 use lib.ListN.{length, replicate}
 use Rattle.sequences.specs.Choices.{both-fail}
+use Rattle.meaning.specs.Results.{recordSize}
 use Rattle.meaning.specs.Words.{_<?_}
 use Rattle.meaning.specs.Run as run
 use Rattle.meaning.specs.Run.{Outcome, Lent, refused, accepted, noRoom, outcome}
@@ -28,13 +29,13 @@ lentAs work ordinates records = record { work = length work; ordinates = length 
 
 -- what was lent is too short for so many ordinates and blocks, or the named block is above the count
 abbrev pub lacking : (nq blocks named ordinates records : ℕ) → Bool
-lacking nq blocks named ordinates records = (ordinates <? nq) || (records <? 32 * blocks) || (blocks <? named)
+lacking nq blocks named ordinates records = (ordinates <? nq) || (records <? recordSize * blocks) || (blocks <? named)
 
-enough-room : (nq blocks named ordinates records : ℕ) → lacking nq blocks named ordinates records ≡ false → (nq ≤ ordinates) × (32 * blocks ≤ records) × (named ≤ blocks)
+enough-room : (nq blocks named ordinates records : ℕ) → lacking nq blocks named ordinates records ≡ false → (nq ≤ ordinates) × (recordSize * blocks ≤ records) × (named ≤ blocks)
 enough-room nq blocks named ordinates records h =
-    let a = both-fail ((ordinates <? nq) || (records <? 32 * blocks)) (blocks <? named) h in
-    let b = both-fail (ordinates <? nq) (records <? 32 * blocks) (a .0) in
-    (ltb-false ordinates nq (b .0), ltb-false records (32 * blocks) (b .1), ltb-false blocks named (a .1))
+    let a = both-fail ((ordinates <? nq) || (records <? recordSize * blocks)) (blocks <? named) h in
+    let b = both-fail (ordinates <? nq) (records <? recordSize * blocks) (a .0) in
+    (ltb-false ordinates nq (b .0), ltb-false records (recordSize * blocks) (b .1), ltb-false blocks named (a .1))
 
 module _ (deck : List ℕ) (named : ℕ) (work ordinates records work′ ordinates′ records′ : List ℕ)
     (lw : length work′ ≡ length work) (lo : length ordinates′ ≡ length ordinates) (lr : length records′ ≡ length records) where
@@ -55,7 +56,7 @@ module _ (deck : List ℕ) (named : ℕ) (work ordinates records work′ ordinat
     accepted-as h =
         let room = enough-room nq blocks named (length ordinates) (length records) (rw (lo, lr) at h) in
         let known : named ≤ length (d .results) = rw (d .blocks-are) (room .2) in
-        let told : 32 * length (d .results) ≤ length records = rw (d .blocks-are) (room .1) in
+        let told : recordSize * length (d .results) ≤ length records = rw (d .blocks-are) (room .1) in
         let same : outcomeIs (answer.Accepted nq blocks) (replicate (length work′) 0) ordinates′ records′ ≡ accepted named (d .time) (d .results) (lentAs work ordinates records) =
         rw (lw, d .flow known (room .0), d .told told, d .ordinates-are, d .blocks-are) in
         same ∙ all-room deck named (lentAs work ordinates records) enough short (d .time) (d .results) (d .done) (room-is ∙ h)

@@ -34,7 +34,7 @@ fn lacks_room(nq: usize, blocks: usize, named: usize, ordinates: usize, records:
     if ordinates < nq {
         return true;
     }
-    if records < 32 * blocks {
+    if records < results::RECORD * blocks {
         return true;
     }
     blocks < named

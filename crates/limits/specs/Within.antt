@@ -14,14 +14,14 @@ use lib.Seq.{set-out, getD-set-same, getD-set-other}
 use lib.ListN.{length, getD, set, replicate, length-set, length-append, length-replicate}
 use Rattle.sequences.specs.Refusals.{neither-met, not-met}
 use Rattle.sequences.specs.Choices.{below-or-not}
-use Rattle.meaning.specs.Words.{_=?_, if_then_else_, met, first}
+use Rattle.meaning.specs.Words.{_=?_, if_then_else_, met}
 use Rattle.meaning.specs.Fields.{Form, fieldsOf, nameIn}
-use Rattle.meaning.specs.Records.{Item, RM, Row, Once, Listed, table, rowOf, rulesIn, listsIn, Record, ID, IT, KK, KM, ZZ, Control, Of, Rule, ruleAt, timeRules, rulesOf, filledUp, valueFields, anyFaulty, anyOutside, valuesFrom, badName}
-use Rattle.meaning.specs.Blocks.{Time, Card, Absent, Given, isGiven, valuesOf, Block, cardOf, opened, repeated, tooMany, value1, value2, value3}
+use Rattle.meaning.specs.Records.{Item, Row, Once, Listed, table, rowOf, rulesIn, listsIn, Record, ID, IT, KK, KM, ZZ, Control, Of, Rule, ruleAt, timeRules, rulesOf, filledUp, valueFields, anyFaulty, anyOutside, valuesFrom, badName}
+use Rattle.meaning.specs.Blocks.{Time, Card, Absent, Given, isGiven, valuesOf, Block, cardOf, opened, repeated, tooMany}
 use Rattle.meaning.specs.Run.{Head, Faulty, Skipped, Holds, headOf, Reading, BeforeTime, BeforeBlocks, InBlock, Event, Refuse, Go, Open, End, unless, timeRefusal, timeOf, nameRefusal, itemValues, itemRefusal, withItem, readRecord, readBy, readLine}
 use Rattle.records.specs.Blanks.{faulty-split}
 use Rattle.limits.specs.Limits.{highest, lowest, values-at-most, values-at-least}
-use Rattle.limits.specs.ReadOn.{Found, Missing, Met, metBy, readOn}
+use Rattle.events.specs.NextEvent.{Found, FoundHas, found-has, nextEvent}
 
 pub record TimeWithin (τ : Time) : Type 0 where
   pub some-minutes : 1 ≤ τ .minutes
@@ -47,19 +47,6 @@ pub record Within (b : Block) : Type 0 where
   pub name : badName (b .name) ≡ false
   pub long : length (b .cards) ≡ length table
   pub cards : (item : Item) → CardWithin (rowOf item) (cardOf item b)
-
--- RM's limits by name
-pub record Reach (rm : Card) : Type 0 where
-  pub some-steps : 1 ≤ value1 rm
-  pub few-steps : value1 rm ≤ 50
-  pub some-travel : 1 ≤ value2 rm
-  pub short-travel : value2 rm ≤ 2400
-  pub low-weight : value3 rm ≤ 50
-
-pub reach-limits : (b : Block) → Within b → isGiven (cardOf RM b) ≡ true → Reach (cardOf RM b)
-reach-limits b w given =
-    let r = w .cards RM in
-    record { some-steps = r .low given 0 (omega arith); few-steps = r .high 0; some-travel = r .low given 1 (omega arith); short-travel = r .high 1; low-weight = r .high 2 }
 
 -- what an item's line that is not refused has shown
 pub record Sound (τ : Time) (b : Block) (item : Item) (fs : List (List ℕ)) : Type 0 where
@@ -229,19 +216,7 @@ unfolding readLine
 reading-within r l w = read-within (headOf l) r l w
 
 abbrev pub FoundWithin : Found → Type 0
-FoundWithin (Missing r line) = Unit
-FoundWithin (Met e r line rest) = EventWithin e × ReadingWithin r
+FoundWithin = FoundHas ReadingWithin (λ (e : Event) (r : Reading). EventWithin e)
 
-met-within : (e : Event) (r : Reading) (line : ℕ) (rest : List (List ℕ)) (go : Reading → Found) → EventWithin e → ReadingWithin r
-    → ((next : Reading) → ReadingWithin next → FoundWithin (go next)) → FoundWithin (metBy e r line rest go)
-met-within (Refuse number) r line rest go w v ih = (w, v)
-met-within (Go next) r line rest go w v ih = ih next w
-met-within (Open next) r line rest go w v ih = (w, v)
-met-within (End τ) r line rest go w v ih = (w, v)
-
-pub found-within : (ls : List (List ℕ)) (r : Reading) (line : ℕ) → ReadingWithin r → FoundWithin (readOn ls r line)
-unfolding readOn
-found-within [] r line w = tt
-found-within (l ∷ ls) r line w =
-    met-within (readLine r l) r line ls (λ (next : Reading). readOn ls next (line + 1)) (reading-within r l w) w
-    (λ (next : Reading) v. found-within ls next (line + 1) v)
+pub found-within : (ls : List (List ℕ)) (r : Reading) (line : ℕ) → ReadingWithin r → FoundWithin (nextEvent ls r line)
+found-within = found-has ReadingWithin (λ (e : Event) (r : Reading). EventWithin e) reading-within (λ (r next : Reading) w. w)

@@ -17,7 +17,7 @@ use Rattle.meaning.specs.Records.{Item, Row, rulesIn, rulesOf, timeRules, badNa
 use Rattle.meaning.specs.Blocks.{Time}
 use Rattle.meaning.specs.Run as run
 use Rattle.meaning.specs.Run.{Event, Refuse, Go, Open, End, unless, timeRefusal, itemRefusal, nameRefusal, readRecord, readBy, readLine}
-use Rattle.limits.specs.ReadOn.{Found, Missing, Met, metBy, readOn}
+use Rattle.events.specs.NextEvent.{Found, Missing, Met, metBy, nextEvent}
 use Rattle.lines.specs.First.{FairAt, ForeignAt}
 use Rattle.fields.specs.Spans.{formOf, firstPlace}
 use Rattle.identifiers.specs.declared.Head.{Head}
@@ -41,7 +41,7 @@ use Rattle.reading.specs.Places.{Due, fieldsEvent, nameEvent}
 -- At `at` the line from there to `end` is the next, behind n lines; the reading stands at q, and comes to f.
 pub record AtLine (s : List ℕ) (at end next n : ℕ) (q : run.Reading) (f : Found) : Type 0 where
   pub fair : FairAt s at end next
-  pub so-far : readOn (linesOf (drop at s)) q (n + 1) ≡ f
+  pub so-far : nextEvent (linesOf (drop at s)) q (n + 1) ≡ f
 
 module _ {s : List ℕ} {at end next n : ℕ} {q : run.Reading} {f : Found} (t : AtLine s at end next n q f) where
   abbrev line : List ℕ
@@ -50,11 +50,11 @@ module _ {s : List ℕ} {at end next n : ℕ} {q : run.Reading} {f : Found} (t :
   abbrev rest : List (List ℕ)
   rest = linesOf (drop next s)
 
-  turned : metBy (readLine q line) q (n + 1) rest (λ (r : run.Reading). readOn rest r (n + 1 + 1)) ≡ f
-  unfolding readOn
+  turned : metBy (readLine q line) q (n + 1) rest (λ (r : run.Reading). nextEvent rest r (n + 1 + 1)) ≡ f
+  unfolding nextEvent
   turned = rw (t .fair .lines) at (t .so-far)
 
-  pub goes : (r : run.Reading) → readLine q line ≡ Go r → readOn rest r (n + 1 + 1) ≡ f
+  pub goes : (r : run.Reading) → readLine q line ≡ Go r → nextEvent rest r (n + 1 + 1) ≡ f
   goes r e = rw e at turned
 
   pub refuses : (number : ℕ) → readLine q line ≡ Refuse number → f ≡ Met (Refuse number) q (n + 1) rest
@@ -81,15 +81,15 @@ module _ {s : List ℕ} {at end next n : ℕ} {q : run.Reading} {f : Found} (t :
   line-record h k e z = headed h e ∙ rw z
 
 -- a foreign line
-pub foreign-found : (s : List ℕ) (at n : ℕ) (q : run.Reading) (f : Found) → ForeignAt s at → readOn (linesOf (drop at s)) q (n + 1) ≡ f
+pub foreign-found : (s : List ℕ) (at n : ℕ) (q : run.Reading) (f : Found) → ForeignAt s at → nextEvent (linesOf (drop at s)) q (n + 1) ≡ f
     → (p : run.Reading) × (later : List (List ℕ)) × (f ≡ Met (Refuse 3) p (n + 1) later)
-unfolding readOn readLine
+unfolding nextEvent readLine
 foreign-found s at n q f a e = (q, a .rest, sym (rw (a .lines, foreign-head (a .line) (a .met)) at e))
 
 -- past the last line
-pub none-found : (s : List ℕ) (at n : ℕ) (q : run.Reading) (f : Found) → drop at s ≡ [] → readOn (linesOf (drop at s)) q (n + 1) ≡ f
+pub none-found : (s : List ℕ) (at n : ℕ) (q : run.Reading) (f : Found) → drop at s ≡ [] → nextEvent (linesOf (drop at s)) q (n + 1) ≡ f
     → (p : run.Reading) × (last : ℕ) × (f ≡ Missing p last)
-unfolding readOn linesOf
+unfolding nextEvent linesOf
 none-found s at n q f z e = (q, n + 1, sym (rw z at e))
 
 -- FIELDS

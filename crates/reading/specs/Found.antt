@@ -6,7 +6,7 @@ use lib.ListN.{length, drop}
 use Rattle.meaning.specs.Lines.{linesOf}
 use Rattle.meaning.specs.Run as run
 use Rattle.meaning.specs.Run.{Refuse, Open, End}
-use Rattle.limits.specs.ReadOn.{Found, Missing, Met, readOn}
+use Rattle.events.specs.NextEvent.{Found, Missing, Met, nextEvent}
 use Rattle.blocks.specs.declared.Name.{Name}
 use Rattle.blocks.specs.Meant.{nameIs}
 use Rattle.reading.specs.Readings.{timeIn, openedIn, readingIs, Ready}
@@ -36,5 +36,21 @@ OnwardBy event.Ended onward = onward
 OnwardBy event.Missing onward = Unit
 
 pub record Gets (s : List ℕ) (from before : ℕ) (start : run.Reading) (r : Got) (w : List ℕ) : Type 0 where
-  pub found : FoundIs (r .event) (readingIs (r .reading) w) (r .name) (r .line) (linesOf (drop (r .at) s)) (readOn (linesOf (drop from s)) start (before + 1))
+  pub found : FoundIs (r .event) (readingIs (r .reading) w) (r .name) (r .line) (linesOf (drop (r .at) s)) (nextEvent (linesOf (drop from s)) start (before + 1))
   pub onward : OnwardBy (r .event) (Onward s from r w)
+
+-- What an outcome says of the deck: the refusal and its line; or where the reading stood, the line and the lines behind it, with the name of a block that is opened.
+pub data Told : Type 0 where
+  Refusal : (number line : ℕ) → Told
+  Opening : run.Reading → (name : List ℕ) → (line : ℕ) → (rest : List (List ℕ)) → Told
+  Ending : run.Reading → (line : ℕ) → (rest : List (List ℕ)) → Told
+  Nothing : Told
+
+abbrev pub toldBy : Event → run.Reading → (name : List ℕ) → (line : ℕ) → (rest : List (List ℕ)) → Told
+toldBy (event.Refused number) r name line rest = Refusal number line
+toldBy event.Opened r name line rest = Opening r name line rest
+toldBy event.Ended r name line rest = Ending r line rest
+toldBy event.Missing r name line rest = Nothing
+
+abbrev pub told : List ℕ → Got → List ℕ → Told
+told s r w = toldBy (r .event) (readingIs (r .reading) w) (nameIs (r .name)) (r .line) (linesOf (drop (r .at) s))

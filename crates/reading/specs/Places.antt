@@ -4,10 +4,10 @@ use native.Mathlib.Omega.{arith}
 use mathlib.Core.Path.{_≡_, refl}
 use mathlib.Core.Bool.{Bool, true, false}
 use mathlib.Core.List.{List}
-use Rattle.meaning.specs.Fields.{Form, fieldsOf, nameIn}
+use Rattle.meaning.specs.Fields.{fieldsOf, nameIn}
 use Rattle.meaning.specs.Records as records
 use Rattle.meaning.specs.Records.{Item, ID, IT, KK, KM, ZZ, Control, Of}
-use Rattle.meaning.specs.Blocks.{Time, Block, opened, repeated}
+use Rattle.meaning.specs.Blocks.{Time, repeated}
 use Rattle.meaning.specs.Run as run
 use Rattle.meaning.specs.Run.{BeforeTime, BeforeBlocks, InBlock, Event, Refuse, Go, Open, End, unless, timeRefusal, timeOf, nameRefusal, itemRefusal, withItem, readRecord}
 use Rattle.fields.specs.Spans.{formOf}

@@ -4,7 +4,6 @@
 --     Begins, Opens   a reading begun, and one with a block just opened
 use Prim.Native.Nat.{ℕ, _≤_}
 use mathlib.Core.Path.{_≡_}
-use mathlib.Core.Bool.{Bool, false}
 use mathlib.Core.List.{List}
 use Rattle.meaning.specs.Fields.{Form, Fixed}
 use Rattle.meaning.specs.Blocks as blocks

@@ -5,21 +5,20 @@
 --     item-line       a record of the open block taken, or refused by 8
 use Prim.Native.Nat.{ℕ, zero, suc, _≤_, _<_}
 use mathlib.Core.Path.{_≡_, refl, sym, _∙_, ap, subst}
-use mathlib.Core.Bool.{Bool, true, false}
+use mathlib.Core.Bool.{true, false}
 use mathlib.Core.List.{List}
 use native.Mathlib.Omega.{arith}
-use lib.ListN.{length, take, getD}
+use lib.ListN.{take, getD}
 use lib.Seq.{getD-take}
 use Rattle.meaning.specs.Words.{if_then_else_, met}
 use Rattle.meaning.specs.Fields.{Form}
-use Rattle.meaning.specs.Records.{Row, Once, Listed, Item, rowOf, listsIn, filledUp, rulesIn, rulesOf, timeRules, valueFields, anyFaulty, anyOutside, valuesFrom}
+use Rattle.meaning.specs.Records.{Row, Once, Listed, Item, rowOf, listsIn, filledUp, rulesIn, rulesOf, timeRules, valueFields, anyOutside}
 use Rattle.meaning.specs.Blocks.{Time, Block, repeated, tooMany}
-use Rattle.meaning.specs.Run as run
 use Rattle.meaning.specs.Run.{BeforeTime, BeforeBlocks, InBlock, Refuse, Go, unless, timeRefusal, timeOf, itemValues, itemRefusal, withItem}
 use Rattle.fields.specs.Spans.{formOf}
 use Rattle.records.specs.Rows.{items, fieldRow, block-row, spanIn}
 use Rattle.blocks.specs.Meant.{timeIs, nameIs}
-use Rattle.blocks.specs.Cards.{blockOf, Takes, Counted}
+use Rattle.blocks.specs.Cards.{blockOf, Takes}
 use Rattle.blocks.specs.Values.{counted-readable}
 use Rattle.limits.specs.Limits.{values-at-most}
 use Rattle.scanning.specs.Pass.{Scanned}

@@ -21,7 +21,6 @@ one-note-field κs a x y e f p q =
     let same = scanned-once (x .faulty) refl (p .1 .0) (p .1 .1) (λ z. q .1 .0 (sym faulty ∙ z)) (λ z. q .1 .1 (sym faulty ∙ z)) in
     (rw (faulty, ap (λ (s : Scanned). s .count) same, ap (λ (s : Scanned). s .outside) same), ap (λ (s : Scanned). s .values) same)
 
-
 pub one-is-left : Once is-left.ps is-left.r is-left-says.Post (λ κs x y e f. x ≡ y)
 one-is-left κs a x y e f p q = cc
 

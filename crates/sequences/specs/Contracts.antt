@@ -15,3 +15,7 @@ module _ {n : ℕ} (ps : List (PK n)) (r : RK n) where
 
   abbrev pub Once : Out n ps r → ((κs : Lfts n) → Result κs → Result κs → Left κs → Left κs → Type 0) → Type 0
   Once post same = (κs : Lfts n) (a : Dens κs ps) (x y : Result κs) (e f : Left κs) → post κs a x e → post κs a y f → same κs x y e f
+
+  -- where what is the same is said by the arguments too
+  abbrev pub OnceAt : Out n ps r → ((κs : Lfts n) → Dens κs ps → Result κs → Result κs → Left κs → Left κs → Type 0) → Type 0
+  OnceAt post same = (κs : Lfts n) (a : Dens κs ps) (x y : Result κs) (e f : Left κs) → post κs a x e → post κs a y f → same κs a x y e f

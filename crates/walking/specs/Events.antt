@@ -8,20 +8,20 @@ use lib.ListN.{length}
 use Rattle.meaning.specs.Words.{_=?_, _≤?_, met, first}
 use Rattle.meaning.specs.Blocks.{Time}
 use Rattle.meaning.specs.Run.{Reading, Refuse, Open, End, Standing, openRefusal, closed, oneMore, Stopped, Done, Stop, Next, stepUnless, andThen, walk}
-use Rattle.limits.specs.ReadOn.{Found, Missing, Met, readOn, workFound, walk-read}
+use Rattle.events.specs.NextEvent.{Found, Missing, Met, nextEvent, workFound, walk-read}
 
 module _ (ls : List (List ℕ)) (r : Reading) (s : Standing) (n : ℕ) where
-  found-walk : (f : Found) → readOn ls r n ≡ f → walk ls r s n ≡ workFound f s
+  found-walk : (f : Found) → nextEvent ls r n ≡ f → walk ls r s n ≡ workFound f s
   found-walk f e = walk-read ls r s n ∙ ap (λ (g : Found). workFound g s) e
 
-  pub walk-missing : (q : Reading) (last : ℕ) → readOn ls r n ≡ Missing q last → walk ls r s n ≡ Stopped 16 0
+  pub walk-missing : (q : Reading) (last : ℕ) → nextEvent ls r n ≡ Missing q last → walk ls r s n ≡ Stopped 16 0
   walk-missing q last e = found-walk (Missing q last) e
 
-  pub walk-refused : (number : ℕ) (q : Reading) (line : ℕ) (rest : List (List ℕ)) → readOn ls r n ≡ Met (Refuse number) q line rest → walk ls r s n ≡ Stopped number line
+  pub walk-refused : (number : ℕ) (q : Reading) (line : ℕ) (rest : List (List ℕ)) → nextEvent ls r n ≡ Met (Refuse number) q line rest → walk ls r s n ≡ Stopped number line
   walk-refused number q line rest e = found-walk (Met (Refuse number) q line rest) e
 
   -- KK
-  module _ (next q : Reading) (line : ℕ) (rest : List (List ℕ)) (e : readOn ls r n ≡ Met (Open next) q line rest) where
+  module _ (next q : Reading) (line : ℕ) (rest : List (List ℕ)) (e : nextEvent ls r n ≡ Met (Open next) q line rest) where
     opened : walk ls r s n
         ≡ andThen (stepUnless (first (openRefusal q s) (met (200 ≤? s .blocks) 14)) line (Next next (oneMore (closed q s)))) (λ (r′ : Reading) (s′ : Standing). walk rest r′ s′ (line + 1))
     opened = found-walk (Met (Open next) q line rest) e
@@ -37,7 +37,7 @@ module _ (ls : List (List ℕ)) (r : Reading) (s : Standing) (n : ℕ) where
     open-goes z h = opened ∙ rw (z, lt-leb 200 (s .blocks) h)
 
   -- ZZ
-  module _ (τ : Time) (q : Reading) (line : ℕ) (rest : List (List ℕ)) (e : readOn ls r n ≡ Met (End τ) q line rest) where
+  module _ (τ : Time) (q : Reading) (line : ℕ) (rest : List (List ℕ)) (e : nextEvent ls r n ≡ Met (End τ) q line rest) where
     ended : walk ls r s n
         ≡ andThen (stepUnless (first (openRefusal q s) (met (not (length (closed q s .held) =? 1)) 15)) line (Stop (Done τ (closed q s .results)))) (λ (r′ : Reading) (s′ : Standing). walk rest r′ s′ (line + 1))
     ended = found-walk (Met (End τ) q line rest) e

@@ -9,8 +9,7 @@ use lib.ListN.{length, drop, replicate}
 use Rattle.sequences.specs.Parts.{part}
 use Rattle.meaning.specs.Lines.{linesOf}
 use Rattle.meaning.specs.Blocks.{Time, Block, Held}
-use Rattle.meaning.specs.Results.{Result}
-use Rattle.meaning.specs.Run as run
+use Rattle.meaning.specs.Results.{Result, recordSize}
 use Rattle.meaning.specs.Run.{Stopped, Done, Standing, walk, worked, namedFlow}
 use Rattle.limits.specs.Within.{ReadingWithin}
 use Rattle.results.specs.Records.{recordsIn}
@@ -59,7 +58,7 @@ pub record DoneIs (deck : List ℕ) (named n m : ℕ) (nq blocks : ℕ) (ordinat
   pub ordinates-are : time .ordinates ≡ nq
   pub blocks-are : length results ≡ blocks
   pub few : blocks ≤ 200
-  pub told : 32 * length results ≤ m → records ≡ recordsIn m results
+  pub told : recordSize * length results ≤ m → records ≡ recordsIn m results
   pub flow : named ≤ length results → nq ≤ n → ordinates ≡ namedFlow named results ++ replicate (n - nq) 0
 
 abbrev pub WorkedBy : Bool → List ℕ → (named n m number line nq blocks : ℕ) → (ordinates records : List ℕ) → Type 0

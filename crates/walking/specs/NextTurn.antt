@@ -12,7 +12,7 @@ use Rattle.sequences.specs.Choices.{below-or-not}
 use Rattle.sequences.specs.Parts.{part}
 use Rattle.meaning.specs.Lines.{linesOf}
 use Rattle.meaning.specs.Run.{Open, End}
-use Rattle.limits.specs.ReadOn.{Met, readOn}
+use Rattle.events.specs.NextEvent.{Met, nextEvent}
 use Rattle.reading.specs.declared.Reading.{Reading}
 use Rattle.blocks.specs.declared.Name.{Name}
 use Rattle.blocks.specs.Meant.{nameIs}
@@ -46,7 +46,7 @@ module _ (deck : List ℕ) (named n m : ℕ) (s : State) (work ordinates records
     (r : Reading) (line at : ℕ) (cards′ : List ℕ) (ready : Ready r cards′) (x : Finished) (work′ ordinates′ records′ : List ℕ)
     (is : ClosedBy (r .phase) r (s .held) (s .blocks) named x work work′ ordinates ordinates′ records records′ cards′)
     (lw : length work′ ≡ length work) (lo : length ordinates′ ≡ length ordinates) (lr : length records′ ≡ length records) (t : Turn) where
-  pub kk-turn : (name : Name) → readOn (linesOf (drop (s .at) deck)) (readingIs (s .reading) cards) (s .line + 1) ≡ Met (Open (openedIn (readingIs r cards′) (nameIs name))) (readingIs r cards′) line (linesOf (drop at deck))
+  pub kk-turn : (name : Name) → nextEvent (linesOf (drop (s .at) deck)) (readingIs (s .reading) cards) (s .line + 1) ≡ Met (Open (openedIn (readingIs r cards′) (nameIs name))) (readingIs r cards′) line (linesOf (drop at deck))
       → at ≤ length deck → line ≤ at → s .at < at → (cards″ : List ℕ) → OpensNext r name at line x (s .blocks) t cards″
       → TurnIs deck named n m (s .at) t work′ ordinates′ records′ cards″
   kk-turn name found up counted forth cards″ o =
@@ -67,7 +67,7 @@ module _ (deck : List ℕ) (named n m : ℕ) (s : State) (work ordinates records
       rw (stop .ended, stop .worked) (kk-refused deck named n m s work ordinates records cards g r line rest cards′ ready x work′ ordinates′ records′ is name found some))
       (is-or-not (x .refusal) 0)
 
-  pub zz-turn : readOn (linesOf (drop (s .at) deck)) (readingIs (s .reading) cards) (s .line + 1) ≡ Met (End (timeIn (readingIs r cards′))) (readingIs r cards′) line (linesOf (drop at deck))
+  pub zz-turn : nextEvent (linesOf (drop (s .at) deck)) (readingIs (s .reading) cards) (s .line + 1) ≡ Met (End (timeIn (readingIs r cards′))) (readingIs r cards′) line (linesOf (drop at deck))
       → (ordinates″ : List ℕ) → EndsDeck (r .time .ordinates) line x (s .blocks) named t work′ ordinates′ ordinates″
       → TurnIs deck named n m (s .at) t work′ ordinates″ records′ cards′
   zz-turn found ordinates″ o =

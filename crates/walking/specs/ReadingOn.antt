@@ -10,11 +10,10 @@ use Rattle.meaning.specs.Lines.{linesOf}
 use Rattle.meaning.specs.Fields.{Form}
 use Rattle.meaning.specs.Blocks.{Time, Block}
 use Rattle.meaning.specs.Results.{Result}
-use Rattle.meaning.specs.Run as run
 use Rattle.meaning.specs.Run.{Event}
-use Rattle.limits.specs.ReadOn.{Met, readOn}
+use Rattle.events.specs.NextEvent.{Met, nextEvent}
 use Rattle.limits.specs.Within.{ReadingWithin, EventWithin, FoundWithin, found-within}
-use Rattle.limits.specs.Times.{Under, FoundUnder, found-under, Outside, FoundOutside, found-outside}
+use Rattle.events.specs.TimeControl.{Under, FoundUnder, found-under, Outside, FoundOutside, found-outside}
 use Rattle.fields.specs.Spans.{formOf}
 use Rattle.reading.specs.declared.Phase.{Phase}
 use Rattle.reading.specs.declared.Phase.the-variants as phase
@@ -63,7 +62,7 @@ count-outside phase.InBlock τ form b blocks results depth o h = absurd o
 
 module _ (deck : List ℕ) (named n m : ℕ) (s : State) (work ordinates records cards : List ℕ) (g : Going deck named n m s work ordinates records cards)
     (e : Event) (r : Reading) (line : ℕ) (rest : List (List ℕ)) (cards′ : List ℕ)
-    (found : readOn (linesOf (drop (s .at) deck)) (readingIs (s .reading) cards) (s .line + 1) ≡ Met e (readingIs r cards′) line rest)
+    (found : nextEvent (linesOf (drop (s .at) deck)) (readingIs (s .reading) cards) (s .line + 1) ≡ Met e (readingIs r cards′) line rest)
     (ready : Ready r cards′) where
   abbrev lines : List (List ℕ)
   lines = linesOf (drop (s .at) deck)
@@ -79,7 +78,7 @@ module _ (deck : List ℕ) (named n m : ℕ) (s : State) (work ordinates records
       let end = subst FoundOutside found (found-outside lines (readingIs (s .reading) cards) (s .line + 1) start) in
       record {
         held = held-moved (length (g .results)) (s .reading .time .ordinates) (r .time .ordinates) (s .held) work (zero-all .2) (ready .few-ordinates) (g .held);
-        count = count-outside (r .phase) (timeIs (r .time)) (formOf (r .free)) (blockIs r cards′) (s .blocks) (length (g .results)) (s .held .depth) end zero-all;
+        count = count-outside (r .phase) (timeIs (r .time)) (formOf (r .free)) (blockIs r cards′) (s .blocks) (length (g .results)) (s .held .depth) (end .1) zero-all;
         carried = carried-moved named (s .reading .time .ordinates) (r .time .ordinates) n m (g .results) ordinates records (zero-all .1) (g .carried);
         same = none-held (s .reading .time .ordinates) (r .time .ordinates) (s .held) work (zero-all .2);
       }

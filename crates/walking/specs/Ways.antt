@@ -14,8 +14,8 @@ use Rattle.meaning.specs.Fields.{Form}
 use Rattle.meaning.specs.Blocks.{Time, Block, Held}
 use Rattle.meaning.specs.Run as run
 use Rattle.meaning.specs.Run.{InBlock, Open, End, Standing, openRefusal, closed, withResult, oneMore, Stopped, Done, walk, worked, namedFlow, heldFor}
-use Rattle.limits.specs.ReadOn.{Met, readOn}
-use Rattle.limits.specs.Times.{Timed, FoundTimed, found-timed}
+use Rattle.events.specs.NextEvent.{Met, nextEvent}
+use Rattle.events.specs.TimeControl.{Timed, FoundTimed, found-timed}
 use Rattle.fields.specs.Spans.{formOf}
 use Rattle.reading.specs.declared.Phase.{Phase}
 use Rattle.reading.specs.declared.Phase.the-variants as phase
@@ -103,7 +103,7 @@ module _ (deck : List ℕ) (named n m : ℕ) (s : State) (work ordinates records
   stand = standing (s .blocks) (view (s .held) (r .time .ordinates) work) (g .results)
 
   -- the walk so far, with what is held seen by the reading that is reached
-  module _ (e : run.Event) (found : readOn lines from (s .line + 1) ≡ Met e q line rest) where
+  module _ (e : run.Event) (found : nextEvent lines from (s .line + 1) ≡ Met e q line rest) where
     abbrev move : Moved named n m s r (g .results) work ordinates records
     move = moved deck named n m s work ordinates records cards g e r line rest cards′ found ready
 
@@ -126,7 +126,7 @@ module _ (deck : List ℕ) (named n m : ℕ) (s : State) (work ordinates records
       depth-is = sym (length-held (r .time .ordinates) (x .held .areas) (x .held .depth) work′) ∙ ap length (well .held-is)
 
   -- KK
-  module _ (name : Name) (found : readOn lines from (s .line + 1) ≡ Met (Open (openedIn q (nameIs name))) q line rest) where
+  module _ (name : Name) (found : nextEvent lines from (s .line + 1) ≡ Met (Open (openedIn q (nameIs name))) q line rest) where
     abbrev next : run.Reading
     next = openedIn q (nameIs name)
 
@@ -140,7 +140,7 @@ module _ (deck : List ℕ) (named n m : ℕ) (s : State) (work ordinates records
         (lw : length work′ ≡ length work) (lo : length ordinates′ ≡ length ordinates) (lr : length records′ ≡ length records) (none : x .refusal ≡ 0)
         (t : Turn) (cards″ : List ℕ) (goes : GoesOn r (x .held) name at line (s .blocks) t cards″) where
       timed : (timeIn q ≡ timeIs (r .time)) × (formIn q ≡ formOf (r .free))
-      timed = timed-by (r .phase) (timeIs (r .time)) (formOf (r .free)) (blockIs r cards′) (subst FoundTimed found (found-timed lines from (s .line + 1)))
+      timed = timed-by (r .phase) (timeIs (r .time)) (formOf (r .free)) (blockIs r cards′) (subst FoundTimed found (found-timed lines from (s .line + 1)) .0)
 
       abbrev reading : Reading
       reading = t .state .reading
@@ -173,7 +173,7 @@ module _ (deck : List ℕ) (named n m : ℕ) (s : State) (work ordinates records
           }
 
   -- ZZ
-  module _ (found : readOn lines from (s .line + 1) ≡ Met (End (timeIn q)) q line rest) where
+  module _ (found : nextEvent lines from (s .line + 1) ≡ Met (End (timeIn q)) q line rest) where
     pub zz-refused : (x .refusal ≡ 0 → ⊥) → worked deck ≡ Stopped (x .refusal) line
     zz-refused some = sym (walked (End (timeIn q)) found) ∙ end-refused lines from stand (s .line + 1) (timeIn q) q line rest found (x .refusal) (number (End (timeIn q)) found) some
 
@@ -213,7 +213,7 @@ module _ (deck : List ℕ) (named n m : ℕ) (s : State) (work ordinates records
               time = timeIn q;
               results = closed q stand .results;
               done = done;
-              ordinates-are = ap (λ (τ : Time). τ .ordinates) (timed-by (r .phase) (timeIs (r .time)) (formOf (r .free)) (blockIs r cards′) (subst FoundTimed found (found-timed lines from (s .line + 1))) .0);
+              ordinates-are = ap (λ (τ : Time). τ .ordinates) (timed-by (r .phase) (timeIs (r .time)) (formOf (r .free)) (blockIs r cards′) (subst FoundTimed found (found-timed lines from (s .line + 1)) .0) .0);
               blocks-are = as-many (End (timeIn q)) found lw lo lr none;
               few = few-by (r .phase) (s .blocks) (length (g .results)) (s .held .depth) (move (End (timeIn q)) found .count);
               told = w .carried .told;

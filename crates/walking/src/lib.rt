@@ -1,19 +1,15 @@
 // The walk over a deck: its blocks read one after the other, each closed as the next is opened, and what comes of them.
+mod turns;
+
 ghost use mathlib.Core.Path.{_≡_};
-ghost use mathlib.Core.Bool.{true};
-ghost use Prim.Native.Nat.{_-_, _*_, _≤_};
+ghost use Prim.Native.Nat.{_≤_};
 ghost use lib.ListN.{length, replicate};
-ghost use Rattle.sequences.specs.Parts.{part};
 ghost use Rattle.meaning.specs.Records.{table};
 ghost use Rattle.records.specs.Rows.{wordsOf};
 ghost use Rattle.blocks.specs.Meant.{timeIs};
-ghost use Rattle.stack.specs.View.{Fits};
-ghost use Rattle.reading.specs.Readings.{Ready, blockIs};
+ghost use Rattle.reading.specs.Readings.{blockIs};
 ghost use Rattle.walking.specs.Going.{MayFinish, Finishes, MayClose, ClosedBy, Going, TurnIs, WorkedIs};
-ghost use Rattle.walking.specs.Turns.{StateBegins, Stops, GoesOn, workedWell};
-ghost use Rattle.walking.specs.Ways.{copiedLast};
-ghost use Rattle.walking.specs.NextTurn.{OpensNext, EndsDeck};
-use blocks::Name;
+ghost use Rattle.walking.specs.Turns.{StateBegins};
 use reading::Event;
 use reading::Phase;
 use reading::Reading;
@@ -127,133 +123,6 @@ fn first_state(cards: &mut [u64]) -> State
     }
 }
 
-// The deck is refused.
-fn stop(s: State, number: u64, line: u64) -> Turn
-    ensures { λ t. ⌜ Stops number line t ⌝ }
-{
-    Turn {
-        ended: true,
-        state: s,
-        worked: Worked {
-            refused: true,
-            number: number,
-            line: line,
-            nq: 0,
-            blocks: 0,
-        },
-    }
-}
-
-// Goes on in the block that is opened next.
-fn go_on(
-    r: Reading,
-    held: Stack,
-    name: Name,
-    at: usize,
-    line: u64,
-    blocks: usize,
-    cards: &mut [u64],
-) -> Turn
-    requires { ⌜ (name .letters ≤ 6) × (blocks ≤ 200) × Ready r (now cards) ⌝ }
-    ensures { λ t. ⌜ GoesOn r held name at line blocks t (now (cards .exit)) ⌝ }
-{
-    Turn {
-        ended: false,
-        state: State {
-            reading: reading::open_block(r, name, cards),
-            held: held,
-            at: at,
-            line: line,
-            blocks: blocks + 1,
-        },
-        worked: Worked {
-            refused: false,
-            number: 0,
-            line: 0,
-            nq: 0,
-            blocks: 0,
-        },
-    }
-}
-
-// All blocks of the deck are closed, and one is held.
-fn finish(s: State, nq: usize, blocks: usize) -> Turn
-    ensures { λ t. ⌜ (t .ended ≡ true) × (t .worked ≡ workedWell nq blocks) ⌝ }
-{
-    Turn {
-        ended: true,
-        state: s,
-        worked: Worked {
-            refused: false,
-            number: 0,
-            line: 0,
-            nq: nq,
-            blocks: blocks,
-        },
-    }
-}
-
-// The hydrograph held last, in front of the ordinates, if no block was named.
-fn copy_if_last(ordinates: &mut [u64], work: &[u64], held: Stack, nq: usize, named: usize)
-    requires { ⌜ (1 ≤ held .depth) × Fits (held .depth) nq (length (now work)) ⌝ }
-    ensures { λ _. ⌜ now (ordinates .exit) ≡ copiedLast named nq (part (300 * (held .depth - 1)) nq (now (work .entry))) (now (ordinates .entry)) ⌝ }
-{
-    if named != 0 {
-        return;
-    }
-    closing::copy_last(ordinates, work, held, nq);
-}
-
-// KK: unless the block that was open was refused where it closed, the next one is opened.
-fn open_next(
-    s: State,
-    r: Reading,
-    name: Name,
-    at: usize,
-    line: u64,
-    closed: Finished,
-    cards: &mut [u64],
-) -> Turn
-    requires { ⌜ (name .letters ≤ 6) × Ready r (now cards) ⌝ }
-    ensures { λ t. ⌜ OpensNext r name at line closed (s .blocks) t (now (cards .exit)) ⌝ }
-{
-    let refusal = closed.refusal;
-    if refusal != 0 {
-        return stop(s, refusal, line);
-    }
-    let blocks = s.blocks;
-    if blocks >= 200 {
-        return stop(s, 14, line);
-    }
-    let next = closed.held;
-    go_on(r, next, name, at, line, blocks, cards)
-}
-
-// ZZ: unless the block that was open was refused where it closed, one hydrograph is to be held.
-fn end_deck(
-    s: State,
-    nq: usize,
-    line: u64,
-    closed: Finished,
-    named: usize,
-    work: &[u64],
-    ordinates: &mut [u64],
-) -> Turn
-    requires { ⌜ Fits 1 nq (length (now work)) ⌝ }
-    ensures { λ t. ⌜ EndsDeck nq line closed (s .blocks) named t (now (work .entry)) (now (ordinates .entry)) (now (ordinates .exit)) ⌝ }
-{
-    let refusal = closed.refusal;
-    if refusal != 0 {
-        return stop(s, refusal, line);
-    }
-    let last = closed.held;
-    if last.depth != 1 {
-        return stop(s, 15, line);
-    }
-    copy_if_last(ordinates, work, last, nq, named);
-    finish(s, nq, s.blocks)
-}
-
 // Reads on to the next block's opening or the deck's end, and does what is due there.
 fn step(
     deck: &[u8],
@@ -273,18 +142,18 @@ fn step(
     let held = s.held;
     let event = got.event;
     match event {
-        Event::Refused(number) => stop(s, number, got.line),
+        Event::Refused(number) => turns::stop(s, number, got.line),
         Event::Opened => {
             let name = got.name;
             let closed = close_open(r, held, s.blocks, named, work, ordinates, records, cards);
-            open_next(s, r, name, got.at, got.line, closed, cards)
+            turns::open_next(s, r, name, got.at, got.line, closed, cards)
         }
         Event::Ended => {
             let time = r.time;
             let closed = close_open(r, held, s.blocks, named, work, ordinates, records, cards);
-            end_deck(s, time.ordinates, got.line, closed, named, work, ordinates)
+            turns::end_deck(s, time.ordinates, got.line, closed, named, work, ordinates)
         }
-        Event::Missing => stop(s, 16, 0),
+        Event::Missing => turns::stop(s, 16, 0),
     }
 }
 

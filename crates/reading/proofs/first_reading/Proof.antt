@@ -1,7 +1,6 @@
 -- No record is there, so the words count none.
-use Prim.Native.Nat.{ℕ, zero-le}
-use mathlib.Core.Path.{_≡_, refl}
-use native.Mathlib.Omega.{arith}
+use Prim.Native.Nat.{zero-le}
+use mathlib.Core.Path.{refl}
 use borrow.Author.Needs.{needs}
 use Rattle.blocks.specs.Values.{counted-readable}
 use Rattle.reading.proofs.first_reading.Statement.{statement}

@@ -1,5 +1,5 @@
 -- No record is there, whatever stood in the words before.
-use mathlib.Core.Path.{_≡_, refl, ap}
+use mathlib.Core.Path.{refl}
 use borrow.Author.Needs.{needs}
 use Rattle.blocks.specs.Values.{counted-readable}
 use Rattle.blocks.specs.Meant.{nameIs}

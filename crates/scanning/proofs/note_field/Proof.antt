@@ -15,12 +15,12 @@ returns-2 c =
     let x = c .before .before .before .before .before .before .before .before .before .before .before .args in
     let e = rw (c .before .before .before .before .before .before .v .given .1) at (c .before .before .before .before .before .before .before .before .field-at .ensures) in
     let done =
-        noted-by (rulesBy (x .item)) (x .k) (x .f .now) (x .values .now) (x .scan) (c .before .before .before .keep .last .0) (c .note .result) _ _
-        (c .before .before .before .keep .ensures)
-        (c .note .ensures .0)
-        (c .note .ensures .1)
-        (e .1)
-        (e .2) in
+    noted-by (rulesBy (x .item)) (x .k) (x .f .now) (x .values .now) (x .scan) (c .before .before .before .keep .last .0) (c .note .result) _ _
+    (c .before .before .before .keep .ensures)
+    (c .note .ensures .0)
+    (c .note .ensures .1)
+    (e .1)
+    (e .2) in
     (sym (e .0), (λ z. done, λ z. absurd (false≢true z)))
 
 pub note-field-spec : {M : Type 1} → statement M

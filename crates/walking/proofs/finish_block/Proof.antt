@@ -1,6 +1,5 @@
 -- The block is closed by the time control and the cards that were read; its result is written by what it came to.
-use Prim.Native.Nat.{_≤_}
-use mathlib.Core.Path.{_≡_, refl}
+use mathlib.Core.Path.{refl}
 use mathlib.Core.List.{[]}
 use native.Mathlib.Omega.{arith}
 use borrow.Author.Needs.{needs}
@@ -9,7 +8,7 @@ use Rattle.limits.specs.Within.{ReadingWithin}
 use Rattle.meaning.specs.Run.{InBlock}
 use Rattle.fields.specs.Spans.{formOf}
 use Rattle.blocks.specs.Meant.{timeIs}
-use Rattle.reading.specs.Readings.{readingIs, blockIs}
+use Rattle.reading.specs.Readings.{blockIs}
 use Rattle.closing.specs.BetweenBlocks.{held-within}
 use Rattle.walking.proofs.finish_block.Statement.{statement}
 use Rattle.walking.proofs.finish_block.Tie as tie

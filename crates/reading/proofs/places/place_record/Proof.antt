@@ -1,5 +1,5 @@
 -- Each record is one law of where it stands.
-use mathlib.Core.Path.{_≡_, refl, sym}
+use mathlib.Core.Path.{refl}
 use mathlib.Core.Bool.{true, false}
 use borrow.Author.Needs.{needs}
 use Rattle.meaning.specs.Blocks.{repeated}

@@ -16,7 +16,7 @@ use Rattle.lines.specs.First.{FairAt, fair-line}
 use Rattle.fields.specs.Spans.{formOf, firstPlace, Stands}
 use Rattle.identifiers.specs.Heads.{recordIs}
 use Rattle.records.specs.Rows.{fieldRow, rulesBy, spanIn, span-few}
-use Rattle.limits.specs.ReadOn.{Found, Met, readOn}
+use Rattle.events.specs.NextEvent.{Found, Met, nextEvent}
 use Rattle.scanning.specs.declared.Scan.{Scan}
 use Rattle.scanning.specs.Pass.{scanFrom}
 use Rattle.scanning.specs.Scans.{scannedOf}
@@ -41,7 +41,7 @@ pub record Lines (s : List ℕ) (from before : ℕ) (cards₀ : List ℕ) (r₀ 
   pub long : length cards ≡ length cards₀
   pub ten : length values ≡ 10
   pub letters : name .letters ≤ 6
-  pub done : readOn (linesOf (drop at s)) (readingIs r cards) (n + 1) ≡ readOn (linesOf (drop from s)) (readingIs r₀ cards₀) (before + 1)
+  pub done : nextEvent (linesOf (drop at s)) (readingIs r cards) (n + 1) ≡ nextEvent (linesOf (drop from s)) (readingIs r₀ cards₀) (before + 1)
 
 pub record Fields (item : Item) (free : Bool) (named : ℕ) (l : List ℕ) (c₀ : ℕ) (values₀ : List ℕ) (scan₀ : Scan) (values : List ℕ) (c i : ℕ) (scan : Scan) : Type 0 where
   pub ten : length values ≡ 10
@@ -98,7 +98,7 @@ abbrev pub stood : Fair → run.Reading
 stood c = readingIs (at-line c .line .r) (at-line c .line .cards)
 
 abbrev pub sought : Fair → Found
-sought c = readOn (linesOf (drop (c .before .before .before .before .before .before .before .args .from) (deck c))) (readingIs (c .before .before .before .before .before .before .before .args .start) (c .before .before .before .before .before .before .before .args .cards .now)) (c .before .before .before .before .before .before .before .args .before + 1)
+sought c = nextEvent (linesOf (drop (c .before .before .before .before .before .before .before .args .from) (deck c))) (readingIs (c .before .before .before .before .before .before .before .args .start) (c .before .before .before .before .before .before .before .args .cards .now)) (c .before .before .before .before .before .before .before .args .before + 1)
 
 abbrev pub item-at : Listing → Item
 item-at c = c .before .item .given .0 .0
@@ -120,7 +120,7 @@ short c =
 
 -- the next line's turn
 pub moved : (c : Fair) (r : Reading) (cards values : List ℕ) (e : events.Event) → Ready r cards → length cards ≡ length (at-line c .line .cards) → e ≡ event.Missing → length values ≡ 10
-    → readOn (linesOf (drop (next c) (deck c))) (readingIs r cards) (at-line c .line .n + 1 + 1) ≡ sought c
+    → nextEvent (linesOf (drop (next c) (deck c))) (readingIs r cards) (at-line c .line .n + 1 + 1) ≡ sought c
     → Lines (deck c) (c .before .before .before .before .before .before .before .args .from) (c .before .before .before .before .before .before .before .args .before) (c .before .before .before .before .before .before .before .args .cards .now) (c .before .before .before .before .before .before .before .args .start) cards (next c) (at-line c .line .n + 1) r e (at-line c .line .name) values
 moved c r cards values e ready long waiting ten done =
     let o = at-line c .line .inv in
@@ -220,4 +220,3 @@ taken c refusal after r cards e₁ e₂ h =
     did (c .before .before .before .before .before)
     ∙ sym (h ∙ ap (λ (q : Reading). fieldsEvent (item-at (c .before .before .before .before .before)) (readingIs q cards) (fieldsOf (form-at (c .before .before .before .before .before .before .before .before .before .before .before .before .before .before .before)) (text (c .before .before .before .before .before .before .before .before .before .before .before .before .before .before .before)))) e₁
     ∙ ap (λ (w : List ℕ). fieldsEvent (item-at (c .before .before .before .before .before)) (readingIs (at-line (c .before .before .before .before .before .before .before .before .before .before .before .before .before .before .before) .line .r) w) (fieldsOf (form-at (c .before .before .before .before .before .before .before .before .before .before .before .before .before .before .before)) (text (c .before .before .before .before .before .before .before .before .before .before .before .before .before .before .before)))) e₂)
-

@@ -1,6 +1,4 @@
 -- Each way of the line is one law: outside its limits, the time control, a record of the open block.
-use Prim.Native.Nat.{_≤_}
-use mathlib.Core.Path.{_≡_, sym, _∙_}
 use native.Mathlib.Omega.{arith}
 use borrow.Author.Needs.{needs}
 use Rattle.scanning.specs.Scans.{scannedOf}
