@@ -20,7 +20,7 @@ use Rattle.reading.specs.Places.{due-known}
 use Rattle.reading.specs.AtLine.{goes, opens-block, ends-deck, line-skipped, line-unknown, foreign-found, none-found, pass-fault, fault-event, in-form, ready-form, name-bad, name-good, unless-met, unless-none, fault-here, fault-later, scan-later}
 use Rattle.reading.proofs.read_on.Statement.{statement}
 use Rattle.reading.proofs.read_on.Tie as tie
-use Rattle.reading.proofs.read_on.Proof.Points.{Inv-loop, μ-loop, Inv-line, μ-line, at-line, next, text, stood, item-at, form-at, fair, turn, short, moved, refused, onward, holds, named, due, did, all-fields, more, few, small, read, taken, spanned}
+use Rattle.reading.proofs.read_on.Proof.Points.{Inv-loop, μ-loop, Inv-line, μ-line, at-line, next, text, stood, item-at, form-at, fair, turn, short, moved, refused, onward, holds, named, due, did, all-fields, more, few, small, read, taken, spanned, line-of, line-named, begun, ended}
 
 line-holds : tie.Need-line-holds Inv-loop μ-loop Inv-line μ-line
 line-holds c =
@@ -44,12 +44,14 @@ line-less c = let f = fair (c .before .before .before .before) in omega arith
 
 line-again : tie.Need-line-again Inv-loop μ-loop Inv-line μ-line
 line-again c =
-    let x = c .before .before .before .before .before .before .before .line in
-    moved (c .before .before .before .before) (x .r) (x .cards) (x .values) (x .event) (x .inv .ready) refl (x .inv .waiting) (x .inv .ten)
-    (goes (turn (c .before .before .before .before)) _ (line-skipped (turn (c .before .before .before .before)) (c .before .before .head-of .result) (c .before .before .head-of .ensures .0) (c .enum-told .given .1)))
+    let at = c .before .before .before .before in
+    let x = at-line at .line in
+    let h = c .before .before .head-of in
+    moved at (x .r) (x .cards) (x .values) (x .event) (x .inv .ready) refl (x .inv .waiting) (x .inv .ten)
+    (goes (turn at) _ (line-skipped (turn at) (h .result) (h .ensures .0) (c .enum-told .given .1)))
 
 place-record-requires : tie.Need-place-record-requires Inv-loop μ-loop Inv-line μ-line
-place-record-requires c κs = (rw (c .before .before .k .given .1) at (c .before .before .before .before .head-of .ensures .1), c .before .before .before .before .before .before .before .before .before .line .inv .ready .readable)
+place-record-requires c κs = (rw (c .before .before .k .given .1) at (c .before .before .before .before .head-of .ensures .1), at-line (c .before .before .before .before .before .before) .line .inv .ready .readable)
 
 line-less-2 : tie.Need-line-less-2 Inv-loop μ-loop Inv-line μ-line
 line-less-2 c = let f = fair (c .before .before .before .before .before .before .before .before .before .before) in omega arith
@@ -70,11 +72,12 @@ named-fields-requires c κs = due-known (at-line (c .before .before .before .bef
 
 loop-holds : tie.Need-loop-holds Inv-loop μ-loop Inv-line μ-line
 loop-holds c =
-    let stands : Stands (form-at (c .before .before .before .before .before .before .before .before .before .before .before .before)) (text (c .before .before .before .before .before .before .before .before .before .before .before .before)) 0 (c .first-place .result) = rw (c .first-place .ensures) (first-stands (form-at (c .before .before .before .before .before .before .before .before .before .before .before .before)) (text (c .before .before .before .before .before .before .before .before .before .before .before .before))) in
-    (refl, refl, refl, record { ten = c .before .before .before .before .before .before .before .before .before .before .before .before .before .before .before .line .inv .ten; stands = stands; near = omega arith; faults = refl; scans = refl })
+    let at = line-of (c .before .before) in
+    let stands : Stands (form-at at) (text at) 0 (c .first-place .result) = rw (c .first-place .ensures) (first-stands (form-at at) (text at)) in
+    (refl, refl, refl, record { ten = at-line at .line .inv .ten; stands = stands; near = omega arith; faults = refl; scans = refl })
 
 next-span-requires : tie.Need-next-span-requires Inv-loop μ-loop Inv-line μ-line
-next-span-requires c κs = (omega (arith, small c), short (c .before .before .before .before .before .before .before .before .before .before .before .before .before .before .before), c .before .before .loop .inv .3 .stands)
+next-span-requires c κs = (omega (arith, small c), short (line-of (begun c)), c .before .before .loop .inv .3 .stands)
 
 sub-note-field : tie.Need-sub-note-field Inv-loop μ-loop Inv-line μ-line
 sub-note-field c = let f = spanned (c .before) in omega arith
@@ -93,9 +96,10 @@ add-i c = omega (arith, small (c .before .before .before .before .before .before
 
 loop-less : tie.Need-loop-less Inv-loop μ-loop Inv-line μ-line
 loop-less c =
+    let l = c .before .before .before .before .before .before .before .before .before .loop in
     let sp = c .before .before .before .before .before .before .next-span in
     let st = spanned (c .before .before .before .before .before .before) in
-    left-less (length (text (c .before .before .before .before .before .before .before .before .before .before .before .before .before .before .before .before .before .before .before .before .before .before))) (c .before .before .before .before .before .before .before .before .before .loop .c) (c .before .before .before .before .before .before .before .before .before .loop .i) (c .before .before .before .before .before .before .before .before .before .before .before .named-fields .result) (sp .result .next) (more (c .before .before .before .before .before .before .before)) (st .forth) (st .past)
+    left-less (length (text (line-of (begun (c .before .before .before .before .before .before .before))))) (l .c) (l .i) (c .before .before .before .before .before .before .before .before .before .before .before .named-fields .result) (sp .result .next) (more (c .before .before .before .before .before .before .before)) (st .forth) (st .past)
 
 loop-again : tie.Need-loop-again Inv-loop μ-loop Inv-line μ-line
 loop-again c =
@@ -104,9 +108,11 @@ loop-again c =
     let st = spanned (c .before .before .before .before .before .before) in
     let nf = c .before .before .before .note-field in
     let i = c .before .before .before .before .before .before .before .before .before .loop .i in
-    let rules = rulesBy (item-at (c .before .before .before .before .before .before .before .before .before .before .before .before)) in
-    let fs = st .fields (c .before .before .before .before .before .before .before .before .before .before .before .named-fields .result) (more (c .before .before .before .before .before .before .before)) in
-    let near = left-near (length (text (c .before .before .before .before .before .before .before .before .before .before .before .before .before .before .before .before .before .before .before .before .before .before))) (c .before .before .before .before .before .before .before .before .before .loop .c) i (c .before .before .before .before .before .before .before .before .before .before .before .named-fields .result) (sp .result .next) (v .3 .near) (few (c .before .before .before .before .before .before .before)) (more (c .before .before .before .before .before .before .before)) (st .forth) in
+    let rules = rulesBy (item-at (begun (c .before .before .before .before .before .before .before))) in
+    let fs = st .fields _ (more (c .before .before .before .before .before .before .before)) in
+    let named = c .before .before .before .before .before .before .before .before .before .before .before .named-fields .result in
+    let text-long = length (text (line-of (begun (c .before .before .before .before .before .before .before)))) in
+    let near = left-near text-long (c .before .before .before .before .before .before .before .before .before .loop .c) i named (sp .result .next) (v .3 .near) (few (c .before .before .before .before .before .before .before)) (more (c .before .before .before .before .before .before .before)) (st .forth) in
     let sound = sym (nf .ensures .0) ∙ c .before .if4 .left in (
       v .0,
       v .1,
@@ -123,19 +129,23 @@ loop-again c =
 take-line-requires : tie.Need-take-line-requires Inv-loop μ-loop Inv-line μ-line
 take-line-requires c κs =
     let v = c .before .before .before .before .loop .inv in
-    ((rw (v .1, v .0) (c .before .before .before .before .before .before .before .before .before .before .before .before .before .before .before .before .before .before .before .before .line .inv .ready), rw (v .1, v .0) (due (c .before .before .before .before .before .before .before))), record { fields = _; read = read (c .before .before) })
+    ((rw (v .1, v .0) (at-line (line-of (ended (c .before .before))) .line .inv .ready), rw (v .1, v .0) (due (ended (c .before .before)))), record { fields = _; read = read (c .before .before) })
 
 line-less-3 : tie.Need-line-less-3 Inv-loop μ-loop Inv-line μ-line
-line-less-3 c = let f = fair (c .before .before .before .before .before .before .before .before .before .before .before .before .before .before .before .before .before .before .before .before .before .before) in omega arith
+line-less-3 c = let f = fair (line-of (ended (c .before .before .before .before .before .before .before))) in omega arith
 
 line-again-3 : tie.Need-line-again-3 Inv-loop μ-loop Inv-line μ-line
 line-again-3 c =
-    let o = c .before .before .before .before .before .before .before .before .before .before .before .before .before .before .before .before .before .before .before .before .before .before .before .before .before .line .inv in
-    let v = c .before .before .before .before .before .before .before .before .before .loop .inv in
+    let p = c .before .before .before .before .before .before .before in
+    let at = line-of (ended p) in
+    let l = c .before .before .before .before .before .before .before .before .before .loop in
+    let v = l .inv in
     let tl = c .before .before .before .before .take-line in
     let none = c .before .if5 .left in
-    moved (c .before .before .before .before .before .before .before .before .before .before .before .before .before .before .before .before .before .before .before .before .before .before) _ (tl .last .1 .1 .1 .1 .0) (c .before .before .before .before .before .before .before .before .before .loop .values) (c .before .before .before .before .before .before .before .before .before .loop .event) (tl .ensures .ready none) (tl .kept .1 .1 .1 .1 .0 ∙ ap length (v .0)) (v .2 ∙ o .waiting) (v .3 .ten)
-    (goes (turn (c .before .before .before .before .before .before .before .before .before .before .before .before .before .before .before .before .before .before .before .before .before .before)) _ (taken (c .before .before .before .before .before .before .before) (tl .result .refusal) _ _ _ (v .1) (v .0) (tl .ensures .event _ (read (c .before .before .before .before .before .before .before))) ∙ unless-none _ _ none))
+    let long = tl .kept .1 .1 .1 .1 .0 ∙ ap length (v .0) in
+    let did = taken p (tl .result .refusal) _ _ _ (v .1) (v .0) (tl .ensures .event _ (read p)) in
+    moved at _ (tl .last .1 .1 .1 .1 .0) (l .values) (l .event) (tl .ensures .ready none) long (v .2 ∙ at-line at .line .inv .waiting) (v .3 .ten)
+    (goes (turn at) _ (did ∙ unless-none _ _ none))
 
 same-length : tie.Need-same-length Inv-loop μ-loop Inv-line μ-line
 same-length c = c .before .line .inv .long
@@ -152,7 +162,8 @@ same-length-2 c = c .before .before .before .before .before .before .before .lin
 
 returns-2 : tie.Need-returns-2 Inv-loop μ-loop Inv-line μ-line
 returns-2 c =
-    record { found = refused (c .before .before .before .before) 4 (line-unknown (turn (c .before .before .before .before)) (c .before .before .head-of .result) (c .before .before .head-of .ensures .0) (c .enum-told2 .given .1)); onward = tt }
+    let h = c .before .before .head-of in
+    record { found = refused (c .before .before .before .before) 4 (line-unknown (turn (c .before .before .before .before)) (h .result) (h .ensures .0) (c .enum-told2 .given .1)); onward = tt }
 
 same-length-3 : tie.Need-same-length-3 Inv-loop μ-loop Inv-line μ-line
 same-length-3 c = c .before .before .before .before .before .before .before .before .before .before .before .before .line .inv .long
@@ -167,52 +178,52 @@ same-length-4 c = c .before .before .before .before .before .before .before .bef
 
 returns-4 : tie.Need-returns-4 Inv-loop μ-loop Inv-line μ-line
 returns-4 c =
-    record { found = refused (c .before .before .before .before .before .before .before .before .before .before .before) 6 (named (c .before) ∙ name-bad (stood (c .before .before .before .before .before .before .before .before .before .before .before)) _ (sym (c .before .read-name .ensures .bad) ∙ c .if2 .taken)); onward = tt }
+    record { found = refused (line-named (c .before)) 6 (named (c .before) ∙ name-bad (stood (line-named (c .before))) _ (sym (c .before .read-name .ensures .bad) ∙ c .if2 .taken)); onward = tt }
 
 same-length-5 : tie.Need-same-length-5 Inv-loop μ-loop Inv-line μ-line
 same-length-5 c = c .before .before .before .before .before .before .before .before .before .before .before .before .before .before .before .line .inv .long
 
 returns-5 : tie.Need-returns-5 Inv-loop μ-loop Inv-line μ-line
 returns-5 c =
+    let at = line-named (c .before .before) in
     let label = c .before .before .read-name in
-    let name = label .ensures .same (c .before .if2 .left) in
-    record {
-      found = rw name (opens-block (turn (c .before .before .before .before .before .before .before .before .before .before .before .before)) _ (named (c .before .before) ∙ name-good (stood (c .before .before .before .before .before .before .before .before .before .before .before .before)) _ (sym (label .ensures .bad) ∙ c .before .if2 .left)));
-      onward = onward (c .before .before .before .before .before .before .before .before .before .before .before .before) event.Opened _ (label .ensures .short);
-    }
+    let good = name-good (stood at) _ (sym (label .ensures .bad) ∙ c .before .if2 .left) in
+    record { found = rw (label .ensures .same (c .before .if2 .left)) (opens-block (turn at) _ (named (c .before .before) ∙ good)); onward = onward at event.Opened _ (label .ensures .short) }
 
 same-length-6 : tie.Need-same-length-6 Inv-loop μ-loop Inv-line μ-line
 same-length-6 c = c .before .before .before .before .before .before .before .before .before .before .before .before .line .inv .long
 
 returns-6 : tie.Need-returns-6 Inv-loop μ-loop Inv-line μ-line
 returns-6 c =
+    let at = c .before .before .before .before .before .before .before .before .before in
     let stand = rw (c .enum-told5 .given .1) at (c .before .before .place-record .ensures .0) in
-    record { found = ends-deck (turn (c .before .before .before .before .before .before .before .before .before)) _ (holds (c .before .before) ∙ stand _); onward = onward (c .before .before .before .before .before .before .before .before .before) event.Ended _ (c .before .before .before .before .before .before .before .before .before .before .before .before .line .inv .letters) }
+    record { found = ends-deck (turn at) _ (holds (c .before .before) ∙ stand _); onward = onward at event.Ended _ (at-line at .line .inv .letters) }
 
 same-length-7 : tie.Need-same-length-7 Inv-loop μ-loop Inv-line μ-line
-same-length-7 c = ap length (c .before .before .before .before .before .before .before .before .loop .inv .0) ∙ c .before .before .before .before .before .before .before .before .before .before .before .before .before .before .before .before .before .before .before .before .before .before .before .before .line .inv .long
+same-length-7 c = ap length (c .before .before .before .before .before .before .before .before .loop .inv .0) ∙ at-line (line-of (begun (c .before .before .before .before .before .before))) .line .inv .long
 
 returns-7 : tie.Need-returns-7 Inv-loop μ-loop Inv-line μ-line
 returns-7 c =
-    let x = c .before .before .before .before .before .before .before .before .before .before .before .before .before .before .before .before .before .before .before .before .before .before .before .before .line in
+    let at = c .before .before .before .before .before .before .before .before .before .before .before in
+    let x = at-line (line-of at) .line in
     let l = c .before .before .before .before .before .before .before .before .loop in
-    let rules = rulesBy (item-at (c .before .before .before .before .before .before .before .before .before .before .before)) in
-    let fs = spanned (c .before .before .before .before .before) .fields (c .before .before .before .before .before .before .before .before .before .before .named-fields .result) (more (c .before .before .before .before .before .before)) in
-    let bad = fault-here rules (l .i) _ _ _ (sym (c .before .before .note-field .ensures .0) ∙ c .if4 .taken) (rw fs at (l .inv .3 .faults)) in
-    let worse : anyFaulty rules 0 (all-fields (c .before .before .before .before .before .before .before .before .before .before .before)) ≡ true = rw (c .before .before .before .before .before .before .before .before .before .before .named-fields .ensures, c .before .before .before .before .before .before .before .before .before .first-place .ensures) at bad in
-    record {
-      found = refused (c .before .before .before .before .before .before .before .before .before .before .before .before .before .before .before .before .before .before .before .before .before) 6 (did (c .before .before .before .before .before .before .before .before .before .before .before) ∙ fault-event (item-at (c .before .before .before .before .before .before .before .before .before .before .before)) (x .r) (x .cards) _ (due (c .before .before .before .before .before .before .before .before .before .before .before)) (pass-fault (item-at (c .before .before .before .before .before .before .before .before .before .before .before)) (form-at (c .before .before .before .before .before .before .before .before .before .before .before .before .before .before .before .before .before .before .before .before .before)) (text (c .before .before .before .before .before .before .before .before .before .before .before .before .before .before .before .before .before .before .before .before .before)) worse));
-      onward = tt;
-    }
+    let named = c .before .before .before .before .before .before .before .before .before .before .named-fields in
+    let fs = spanned (c .before .before .before .before .before) .fields (named .result) (more (c .before .before .before .before .before .before)) in
+    let bad = fault-here (rulesBy (item-at at)) (l .i) _ _ _ (sym (c .before .before .note-field .ensures .0) ∙ c .if4 .taken) (rw fs at (l .inv .3 .faults)) in
+    let worse : anyFaulty (rulesBy (item-at at)) 0 (all-fields at) ≡ true = rw (named .ensures, c .before .before .before .before .before .before .before .before .before .first-place .ensures) at bad in
+    let fault = pass-fault (item-at at) (form-at (line-of at)) (text (line-of at)) worse in
+    record { found = refused (line-of at) 6 (did at ∙ fault-event (item-at at) (x .r) (x .cards) _ (due at) fault); onward = tt }
 
 same-length-8 : tie.Need-same-length-8 Inv-loop μ-loop Inv-line μ-line
-same-length-8 c = c .before .before .before .take-line .kept .1 .1 .1 .1 .0 ∙ ap length (c .before .before .before .before .before .before .before .before .loop .inv .0) ∙ c .before .before .before .before .before .before .before .before .before .before .before .before .before .before .before .before .before .before .before .before .before .before .before .before .line .inv .long
+same-length-8 c = c .before .before .before .take-line .kept .1 .1 .1 .1 .0 ∙ ap length (c .before .before .before .before .before .before .before .before .loop .inv .0) ∙ at-line (line-of (ended (c .before .before .before .before .before .before))) .line .inv .long
 
 returns-8 : tie.Need-returns-8 Inv-loop μ-loop Inv-line μ-line
 returns-8 c =
+    let p = c .before .before .before .before .before .before in
     let tl = c .before .before .before .take-line in
     let v = c .before .before .before .before .before .before .before .before .loop .inv in
-    record { found = refused (c .before .before .before .before .before .before .before .before .before .before .before .before .before .before .before .before .before .before .before .before .before) _ (taken (c .before .before .before .before .before .before) (tl .result .refusal) _ _ _ (v .1) (v .0) (tl .ensures .event _ (read (c .before .before .before .before .before .before))) ∙ unless-met _ _ (c .if5 .taken)); onward = tt }
+    let did = taken p (tl .result .refusal) _ _ _ (v .1) (v .0) (tl .ensures .event _ (read p)) in
+    record { found = refused (line-of (ended p)) _ (did ∙ unless-met _ _ (c .if5 .taken)); onward = tt }
 
 same-length-9 : tie.Need-same-length-9 Inv-loop μ-loop Inv-line μ-line
 same-length-9 c = c .before .before .before .line .inv .long

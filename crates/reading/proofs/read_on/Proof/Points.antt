@@ -20,7 +20,7 @@ use Rattle.events.specs.NextEvent.{Found, Met, nextEvent}
 use Rattle.scanning.specs.declared.Scan.{Scan}
 use Rattle.scanning.specs.Pass.{scanFrom}
 use Rattle.scanning.specs.Scans.{scannedOf}
-use Rattle.scanning.specs.WholeLine.{LineRead}
+use Rattle.scanning.specs.WholeLine.{Fresh, LineRead}
 use Rattle.scanning.specs.FieldsLeft.{SpanTurn, span-turn, leftBy, leftFields, left-none, left-few}
 use Rattle.blocks.specs.declared.Name.{Name}
 use Rattle.reading.specs.declared.Event as events
@@ -32,7 +32,8 @@ use Rattle.reading.specs.Found.{Onward}
 use Rattle.reading.specs.AtLine.{AtLine, refuses, line-record, pass-read, form-in}
 use Rattle.reading.proofs.read_on.Tie as tie
 
-pub record Lines (s : List ℕ) (from before : ℕ) (cards₀ : List ℕ) (r₀ : Reading) (cards : List ℕ) (at n : ℕ) (r : Reading) (e : events.Event) (name : Name) (values : List ℕ) : Type 0 where
+pub record Lines (s : List ℕ) (from before : ℕ) (cards₀ : List ℕ) (r₀ : Reading) (cards : List ℕ) (at n : ℕ) (r : Reading) (e : events.Event) (name : Name)
+    (values : List ℕ) : Type 0 where
   pub up : at ≤ length s
   pub forth : from ≤ at
   pub counted : n ≤ at
@@ -82,8 +83,11 @@ Listing = tie.After-known-told3 Inv-loop μ-loop Inv-line μ-line
 abbrev pub at-line : Fair → tie.At-line Inv-loop μ-loop Inv-line μ-line
 at-line c = c .before .before .before
 
+abbrev pub begin : Fair → tie.Start Inv-loop μ-loop Inv-line μ-line
+begin c = c .before .before .before .before .before .before .before
+
 abbrev pub deck : Fair → List ℕ
-deck c = c .before .before .before .before .before .before .before .args .s .now
+deck c = begin c .args .s .now
 
 abbrev pub end : Fair → ℕ
 end c = c .before .line-at .result .end
@@ -98,7 +102,7 @@ abbrev pub stood : Fair → run.Reading
 stood c = readingIs (at-line c .line .r) (at-line c .line .cards)
 
 abbrev pub sought : Fair → Found
-sought c = nextEvent (linesOf (drop (c .before .before .before .before .before .before .before .args .from) (deck c))) (readingIs (c .before .before .before .before .before .before .before .args .start) (c .before .before .before .before .before .before .before .args .cards .now)) (c .before .before .before .before .before .before .before .args .before + 1)
+sought c = nextEvent (linesOf (drop (begin c .args .from) (deck c))) (readingIs (begin c .args .start) (begin c .args .cards .now)) (begin c .args .before + 1)
 
 abbrev pub item-at : Listing → Item
 item-at c = c .before .item .given .0 .0
@@ -119,9 +123,10 @@ short c =
     omega (arith, length-part (at-line c .line .at) (end c - at-line c .line .at) (deck c) n)
 
 -- the next line's turn
-pub moved : (c : Fair) (r : Reading) (cards values : List ℕ) (e : events.Event) → Ready r cards → length cards ≡ length (at-line c .line .cards) → e ≡ event.Missing → length values ≡ 10
+pub moved : (c : Fair) (r : Reading) (cards values : List ℕ) (e : events.Event) → Ready r cards
+    → length cards ≡ length (at-line c .line .cards) → e ≡ event.Missing → length values ≡ 10
     → nextEvent (linesOf (drop (next c) (deck c))) (readingIs r cards) (at-line c .line .n + 1 + 1) ≡ sought c
-    → Lines (deck c) (c .before .before .before .before .before .before .before .args .from) (c .before .before .before .before .before .before .before .args .before) (c .before .before .before .before .before .before .before .args .cards .now) (c .before .before .before .before .before .before .before .args .start) cards (next c) (at-line c .line .n + 1) r e (at-line c .line .name) values
+    → Lines (deck c) (begin c .args .from) (begin c .args .before) (begin c .args .cards .now) (begin c .args .start) cards (next c) (at-line c .line .n + 1) r e (at-line c .line .name) values
 moved c r cards values e ready long waiting ten done =
     let o = at-line c .line .inv in
     let f = fair c in
@@ -143,52 +148,68 @@ pub refused : (c : Fair) (number : ℕ) → readLine (stood c) (text c) ≡ Refu
 refused c number e = (_, _, refuses (turn c) number e)
 
 pub onward : (c : Fair) (e : events.Event) (name : Name) → name .letters ≤ 6
-    → Onward (deck c) (c .before .before .before .before .before .before .before .args .from) (record { event = e; reading = at-line c .line .r; name = name; at = next c; line = at-line c .line .n + 1 }) (at-line c .line .cards)
+    → Onward (deck c) (begin c .args .from) (record { event = e; reading = at-line c .line .r; name = name; at = next c; line = at-line c .line .n + 1 }) (at-line c .line .cards)
 onward c e name few =
     let o = at-line c .line .inv in
     let f = fair c in
     record { ready = o .ready; within = f .within; forth = omega (arith, o .forth, f .goes-on); counted = omega (arith, o .counted, f .goes-on); letters = few }
 
 -- it holds a record
-pub holds : (c : Stood) → readLine (stood (c .before .before .before .before .before .before .before)) (text (c .before .before .before .before .before .before .before)) ≡ readRecord (stood (c .before .before .before .before .before .before .before)) (text (c .before .before .before .before .before .before .before)) (recordIs (c .before .before .before .k .given .0 .0))
-holds c = line-record (turn (c .before .before .before .before .before .before .before)) (c .before .before .before .before .before .head-of .result) (c .before .before .before .k .given .0 .0) (c .before .before .before .before .before .head-of .ensures .0) (c .before .before .before .k .given .1)
+pub holds : (c : Stood) → let at = c .before .before .before .before .before .before .before in readLine (stood at) (text at) ≡ readRecord (stood at) (text at) (recordIs (c .before .before .before .k .given .0 .0))
+holds c =
+    let h = c .before .before .before .before .before .head-of in
+    let k = c .before .before .before .k in
+    line-record (turn (c .before .before .before .before .before .before .before)) (h .result) (k .given .0 .0) (h .ensures .0) (k .given .1)
 
 -- with a name
-pub named : (c : tie.After-read-name Inv-loop μ-loop Inv-line μ-line) → readLine (stood (c .before .before .before .before .before .before .before .before .before .before)) (text (c .before .before .before .before .before .before .before .before .before .before)) ≡ nameEvent (stood (c .before .before .before .before .before .before .before .before .before .before)) (nameIn (form-at (c .before .before .before .before .before .before .before .before .before .before)) (text (c .before .before .before .before .before .before .before .before .before .before)))
+abbrev pub line-named : tie.After-read-name Inv-loop μ-loop Inv-line μ-line → Fair
+line-named c = c .before .before .before .before .before .before .before .before .before .before
+
+pub named : (c : tie.After-read-name Inv-loop μ-loop Inv-line μ-line)
+    → readLine (stood (line-named c)) (text (line-named c)) ≡ nameEvent (stood (line-named c)) (nameIn (form-at (line-named c)) (text (line-named c)))
 named c =
-    let x = at-line (c .before .before .before .before .before .before .before .before .before .before) .line in
+    let x = at-line (line-named c) .line in
     let stand = rw (c .before .enum-told4 .given .1) at (c .before .before .before .place-record .ensures .0) in
-    holds (c .before .before .before) ∙ stand _ ∙ ap (λ (form : Form). nameEvent (stood (c .before .before .before .before .before .before .before .before .before .before)) (nameIn form (text (c .before .before .before .before .before .before .before .before .before .before)))) (form-in (x .r) (x .cards))
+    holds (c .before .before .before) ∙ stand _ ∙ ap (λ (form : Form). nameEvent (stood (line-named c)) (nameIn form (text (line-named c)))) (form-in (x .r) (x .cards))
 
 -- with fields, which are due where the reading stands
-pub due : (c : Listing) → Due (at-line (c .before .before .before .before .before .before .before .before .before .before) .line .r .phase) (item-at c) (at-line (c .before .before .before .before .before .before .before .before .before .before) .line .cards)
+abbrev pub line-of : Listing → Fair
+line-of c = c .before .before .before .before .before .before .before .before .before .before
+
+pub due : (c : Listing) → Due (at-line (line-of c) .line .r .phase) (item-at c) (at-line (line-of c) .line .cards)
 due c = rw (c .before .item .given .1) at (c .before .before .before .place-record .ensures .1)
 
-pub did : (c : Listing) → readLine (stood (c .before .before .before .before .before .before .before .before .before .before)) (text (c .before .before .before .before .before .before .before .before .before .before)) ≡ fieldsEvent (item-at c) (stood (c .before .before .before .before .before .before .before .before .before .before)) (fieldsOf (form-at (c .before .before .before .before .before .before .before .before .before .before)) (text (c .before .before .before .before .before .before .before .before .before .before)))
+pub did : (c : Listing) → readLine (stood (line-of c)) (text (line-of c)) ≡ fieldsEvent (item-at c) (stood (line-of c)) (fieldsOf (form-at (line-of c)) (text (line-of c)))
 did c =
-    let x = at-line (c .before .before .before .before .before .before .before .before .before .before) .line in
+    let x = at-line (line-of c) .line in
     let stand = rw (c .before .item .given .1) at (c .before .before .before .place-record .ensures .0) in
-    holds (c .before .before .before) ∙ stand _ ∙ ap (λ (form : Form). fieldsEvent (item-at c) (stood (c .before .before .before .before .before .before .before .before .before .before)) (fieldsOf form (text (c .before .before .before .before .before .before .before .before .before .before)))) (form-in (x .r) (x .cards))
+    holds (c .before .before .before) ∙ stand _ ∙ ap (λ (form : Form). fieldsEvent (item-at c) (stood (line-of c)) (fieldsOf form (text (line-of c)))) (form-in (x .r) (x .cards))
 
 -- all its fields, as the pass begins
 abbrev pub all-fields : Listing → List (List ℕ)
-all-fields c = leftFields (form-at (c .before .before .before .before .before .before .before .before .before .before)) (spanIn (fieldRow (item-at c)) 0) 0 (firstPlace (form-at (c .before .before .before .before .before .before .before .before .before .before)) (text (c .before .before .before .before .before .before .before .before .before .before))) (text (c .before .before .before .before .before .before .before .before .before .before))
+all-fields c = leftFields (form-at (line-of c)) (spanIn (fieldRow (item-at c)) 0) 0 (firstPlace (form-at (line-of c)) (text (line-of c))) (text (line-of c))
 
 -- A FIELD IS LEFT
 abbrev pub Left : Type 0
 Left = tie.Then3 Inv-loop μ-loop Inv-line μ-line
 
-pub more : (c : Left) → leftBy (length (text (c .before .before .before .before .before .before .before .before .before .before .before .before .before .before .before))) (c .before .before .loop .c) (c .before .before .loop .i) (c .before .before .before .before .named-fields .result) ≡ true
+abbrev pub begun : Left → Listing
+begun c = c .before .before .before .before .before
+
+pub more : (c : Left) → leftBy (length (text (line-of (begun c)))) (c .before .before .loop .c) (c .before .before .loop .i) (c .before .before .before .before .named-fields .result) ≡ true
 more c = sym (c .before .is-left .ensures) ∙ c .if3 .taken
 
 pub few : (c : Left) → c .before .before .before .before .named-fields .result ≤ 10
-few c = rw (c .before .before .before .before .named-fields .ensures) (span-few (item-at (c .before .before .before .before .before)) 0 zero-le)
+few c = rw (c .before .before .before .before .named-fields .ensures) (span-few (item-at (begun c)) 0 zero-le)
 
 pub small : (c : Left) → c .before .before .loop .i ≤ 90
-small c = left-few (length (text (c .before .before .before .before .before .before .before .before .before .before .before .before .before .before .before))) (c .before .before .loop .c) (c .before .before .loop .i) (c .before .before .before .before .named-fields .result) (short (c .before .before .before .before .before .before .before .before .before .before .before .before .before .before .before)) (c .before .before .loop .inv .3 .near) (few c) (more c)
+small c =
+    let l = c .before .before .loop in
+    let at = line-of (begun c) in
+    left-few (length (text at)) (l .c) (l .i) (c .before .before .before .before .named-fields .result) (short at) (l .inv .3 .near) (few c) (more c)
 
 pub spanned : (c : tie.After-next-span Inv-loop μ-loop Inv-line μ-line)
-    → SpanTurn (form-at (c .before .before .before .before .before .before .before .before .before .before .before .before .before .before .before .before)) (text (c .before .before .before .before .before .before .before .before .before .before .before .before .before .before .before .before)) (c .before .before .before .loop .i) (c .before .before .before .loop .c) (c .next-span .result)
+    → SpanTurn (form-at (line-of (begun (c .before)))) (text (line-of (begun (c .before)))) (c .before .before .before .loop .i) (c .before .before .before .loop .c) (c .next-span .result)
 spanned c =
     let p = c .before .before .before .before .before .before .before .before .before .before .before .before .before .before .before .before in
     let l = c .before .before .before .loop in
@@ -198,25 +219,36 @@ spanned c =
 abbrev pub None : Type 0
 None = tie.Else3 Inv-loop μ-loop Inv-line μ-line
 
-pub none-left : (c : None) → leftFields (form-at (c .before .before .before .before .before .before .before .before .before .before .before .before .before .before .before)) (c .before .before .before .before .named-fields .result) (c .before .before .loop .i) (c .before .before .loop .c) (text (c .before .before .before .before .before .before .before .before .before .before .before .before .before .before .before)) ≡ []
-none-left c =
-    left-none (form-at (c .before .before .before .before .before .before .before .before .before .before .before .before .before .before .before)) (c .before .before .before .before .named-fields .result) (text (c .before .before .before .before .before .before .before .before .before .before .before .before .before .before .before)) (c .before .before .loop .i) (c .before .before .loop .c) (c .before .before .loop .inv .3 .stands) (sym (c .before .is-left .ensures) ∙ c .if3 .left)
+abbrev pub ended : None → Listing
+ended c = c .before .before .before .before .before
 
-pub read : (c : None) → LineRead (fieldRow (item-at (c .before .before .before .before .before))) (fieldsOf (form-at (c .before .before .before .before .before .before .before .before .before .before .before .before .before .before .before)) (text (c .before .before .before .before .before .before .before .before .before .before .before .before .before .before .before))) (scannedOf (c .before .before .loop .values) (c .before .before .loop .scan))
+pub none-left : (c : None)
+    → leftFields (form-at (line-of (ended c))) (c .before .before .before .before .named-fields .result) (c .before .before .loop .i) (c .before .before .loop .c) (text (line-of (ended c))) ≡ []
+none-left c =
+    let l = c .before .before .loop in
+    let at = line-of (ended c) in
+    left-none (form-at at) (c .before .before .before .before .named-fields .result) (text at) (l .i) (l .c) (l .inv .3 .stands) (sym (c .before .is-left .ensures) ∙ c .if3 .left)
+
+pub read : (c : None)
+    → LineRead (fieldRow (item-at (ended c))) (fieldsOf (form-at (line-of (ended c))) (text (line-of (ended c)))) (scannedOf (c .before .before .loop .values) (c .before .before .loop .scan))
 unfolding anyFaulty scanFrom
 read c =
     let v = c .before .before .loop .inv .3 in
-    let rules = rulesBy (item-at (c .before .before .before .before .before)) in
-    let start = scannedOf (at-line (c .before .before .before .before .before .before .before .before .before .before .before .before .before .before .before) .line .values) (record { count = 0; outside = false }) in
-    let faults : false ≡ anyFaulty rules 0 (all-fields (c .before .before .before .before .before)) = rw (none-left c, c .before .before .before .before .named-fields .ensures, c .before .before .before .first-place .ensures) at (v .faults) in
-    let scans : scannedOf (c .before .before .loop .values) (c .before .before .loop .scan) ≡ scanFrom rules 0 (all-fields (c .before .before .before .before .before)) start =
+    let rules = rulesBy (item-at (ended c)) in
+    let start = scannedOf (at-line (line-of (ended c)) .line .values) (record { count = 0; outside = false }) in
+    let faults : false ≡ anyFaulty rules 0 (all-fields (ended c)) =
+    rw (none-left c, c .before .before .before .before .named-fields .ensures, c .before .before .before .first-place .ensures) at (v .faults) in
+    let scans : scannedOf (c .before .before .loop .values) (c .before .before .loop .scan) ≡ scanFrom rules 0 (all-fields (ended c)) start =
     rw (none-left c, c .before .before .before .before .named-fields .ensures, c .before .before .before .first-place .ensures) at (v .scans) in
-    rw scans (pass-read (item-at (c .before .before .before .before .before)) (form-at (c .before .before .before .before .before .before .before .before .before .before .before .before .before .before .before)) (text (c .before .before .before .before .before .before .before .before .before .before .before .before .before .before .before)) start (record { none = refl; inside = refl; ten = at-line (c .before .before .before .before .before .before .before .before .before .before .before .before .before .before .before) .line .inv .ten }) (sym faults))
+    let at = line-of (ended c) in
+    let fresh : Fresh start = record { none = refl; inside = refl; ten = at-line at .line .inv .ten } in
+    rw scans (pass-read (item-at (ended c)) (form-at at) (text at) start fresh (sym faults))
 
 -- what taking it does, seen from where the line began
-pub taken : (c : None) (refusal : ℕ) (after : run.Reading) (r : Reading) (cards : List ℕ) → r ≡ at-line (c .before .before .before .before .before .before .before .before .before .before .before .before .before .before .before) .line .r → cards ≡ at-line (c .before .before .before .before .before .before .before .before .before .before .before .before .before .before .before) .line .cards
-    → unless refusal (Go after) ≡ fieldsEvent (item-at (c .before .before .before .before .before)) (readingIs r cards) (fieldsOf (form-at (c .before .before .before .before .before .before .before .before .before .before .before .before .before .before .before)) (text (c .before .before .before .before .before .before .before .before .before .before .before .before .before .before .before))) → readLine (stood (c .before .before .before .before .before .before .before .before .before .before .before .before .before .before .before)) (text (c .before .before .before .before .before .before .before .before .before .before .before .before .before .before .before)) ≡ unless refusal (Go after)
+pub taken : (c : None) (refusal : ℕ) (after : run.Reading) (r : Reading) (cards : List ℕ) → r ≡ at-line (line-of (ended c)) .line .r → cards ≡ at-line (line-of (ended c)) .line .cards
+    → unless refusal (Go after) ≡ fieldsEvent (item-at (ended c)) (readingIs r cards) (fieldsOf (form-at (line-of (ended c))) (text (line-of (ended c))))
+    → readLine (stood (line-of (ended c))) (text (line-of (ended c))) ≡ unless refusal (Go after)
 taken c refusal after r cards e₁ e₂ h =
-    did (c .before .before .before .before .before)
-    ∙ sym (h ∙ ap (λ (q : Reading). fieldsEvent (item-at (c .before .before .before .before .before)) (readingIs q cards) (fieldsOf (form-at (c .before .before .before .before .before .before .before .before .before .before .before .before .before .before .before)) (text (c .before .before .before .before .before .before .before .before .before .before .before .before .before .before .before)))) e₁
-    ∙ ap (λ (w : List ℕ). fieldsEvent (item-at (c .before .before .before .before .before)) (readingIs (at-line (c .before .before .before .before .before .before .before .before .before .before .before .before .before .before .before) .line .r) w) (fieldsOf (form-at (c .before .before .before .before .before .before .before .before .before .before .before .before .before .before .before)) (text (c .before .before .before .before .before .before .before .before .before .before .before .before .before .before .before)))) e₂)
+    did (ended c)
+    ∙ sym (h ∙ ap (λ (q : Reading). fieldsEvent (item-at (ended c)) (readingIs q cards) (fieldsOf (form-at (line-of (ended c))) (text (line-of (ended c))))) e₁
+    ∙ ap (λ (w : List ℕ). fieldsEvent (item-at (ended c)) (readingIs (at-line (line-of (ended c)) .line .r) w) (fieldsOf (form-at (line-of (ended c))) (text (line-of (ended c))))) e₂)
