@@ -3,4 +3,5 @@ pub mod Tables
 pub mod Rows
 pub mod Rules
 pub mod Keys
+pub mod Words
 pub mod Blanks

@@ -13,7 +13,7 @@ use Rattle.meaning.specs.Records as records
 use Rattle.meaning.specs.Records.{Row, Once, Listed, Item, rulesIn, ruleAt}
 use Rattle.records.specs.Rows.{rowAt, fieldRows, fieldRow, rulesBy, few-rules}
 use Rattle.records.specs.declared.Rule.{Rule}
-use Rattle.records.specs.declared.Rule.the-variants.{Unnamed, NotRead, Limited}
+use Rattle.records.specs.declared.Rule.the-variants.{Unnamed, NotRead, Limited, Worded}
 use Rattle.records.specs.declared.Field.{Field}
 use Rattle.records.specs.declared.Field.the-variants.{Faulty, Value}
 
@@ -21,6 +21,7 @@ abbrev pub ruleBy : Rule → records.Rule
 ruleBy Unnamed = records.Unnamed
 ruleBy NotRead = records.NotRead
 ruleBy (Limited places low high) = records.Limited places low high
+ruleBy (Worded most low high) = records.Worded most low high
 
 -- the rule of a field, or of the values that are listed
 abbrev pub ownRule : Row → ℕ → records.Rule
@@ -60,16 +61,18 @@ abbrev pub FieldIs : Field → (faulty outside : Bool) → (value : ℕ) → Typ
 FieldIs Faulty faulty outside value = faulty ≡ true
 FieldIs (Value v out) faulty outside value = (faulty ≡ false) × (out ≡ outside) × (v ≡ value)
 
--- Every rule of the table allows four places at most: one test over the rows.
+-- Every rule of the table allows four places at most, and eight characters, so that a word fits: one test over the rows.
 abbrev pub FewPlaces : records.Rule → Type 0
 FewPlaces records.Unnamed = Unit
 FewPlaces records.NotRead = Unit
 FewPlaces (records.Limited places low high) = places ≤ 4
+FewPlaces (records.Worded most low high) = most ≤ 8
 
 abbrev fewIn : records.Rule → Bool
 fewIn records.Unnamed = true
 fewIn records.NotRead = true
 fewIn (records.Limited places low high) = places ≤? 4
+fewIn (records.Worded most low high) = most ≤? 8
 
 abbrev allFew : List records.Rule → Bool
 allFew [] = true
@@ -83,6 +86,7 @@ few-in : (r : records.Rule) → fewIn r ≡ true → FewPlaces r
 few-in records.Unnamed h = tt
 few-in records.NotRead h = tt
 few-in (records.Limited places low high) h = leb-true places 4 h
+few-in (records.Worded most low high) h = leb-true most 8 h
 
 all-few : (rules : List records.Rule) → allFew rules ≡ true → (k : ℕ) → FewPlaces (ruleAt rules k)
 all-few [] h k = tt

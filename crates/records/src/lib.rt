@@ -1,5 +1,7 @@
 // The table of records, as the code has it: a place for each record, the region of the open block's words that its values have, how it stands, its identifier,
 // and the rules of its fields. A further record is one entry more in each table here, and its rules.
+mod words;
+
 ghost use mathlib.Core.Path.{_≡_};
 ghost use Prim.Native.Nat.{_≤_, _<_};
 ghost use Rattle.meaning.specs.Records.{rowOf, ruleAt, isMalformed, isOutside, unitsOf, faultyField, outsideField, valueOf};
@@ -112,11 +114,12 @@ pub fn place_of(key: u64) -> usize
     i
 }
 
-// What a field may hold: nothing; anything, since it is not read; a number with so many places, from a lowest to a highest value.
+// What a field may hold: nothing; anything, since it is not read; a number with so many places, or a word of so many characters, from a lowest to a highest value.
 pub enum Rule {
     Unnamed,
     NotRead,
     Limited(u64, u64, u64),
+    Worded(u64, u64, u64),
 }
 
 // The rule of field `k` of a record, from 0, or of the values that it lists. A match and no table, since it is asked for every field.
@@ -204,6 +207,7 @@ fn read_field(r: Rule, f: &[u8]) -> Field
         }
         Rule::NotRead => Field::Value(0, false),
         Rule::Limited(places, low, high) => limit_value(numbers::read_value(f, places), low, high),
+        Rule::Worded(most, low, high) => limit_value(words::read_word(f, most), low, high),
     }
 }
 

@@ -1,4 +1,4 @@
--- An unnamed field is a fault unless it is blank; a number is read in the units of its field and held against its limits.
+-- An unnamed field is a fault unless it is blank; a number is read in the units of its field, a word by its bytes, and held against the limits.
 use Prim.Native.Nat.{ℕ, _<_, _≤_}
 use mathlib.Core.Path.{_≡_, refl}
 use mathlib.Core.Bool.{true, false, not}
@@ -24,11 +24,17 @@ returns c = rw (c .before .enum-told .given .1) (filled (c .before .before .befo
 read-value-requires : tie.Need-read-value-requires
 read-value-requires c κs = rw (c .before .r .given .1) at (c .before .before .before .before .pre)
 
+read-word-requires : tie.Need-read-word-requires
+read-word-requires c κs = rw (c .before .r2 .given .1) at (c .before .before .before .before .pre)
+
 returns-2 : tie.Need-returns-2
 returns-2 c = rw (c .before .enum-told .given .1) (unfilled (c .before .before .before .before .args .f .now) (c .if1 .left), refl, refl)
 
 returns-4 : tie.Need-returns-4
 returns-4 c = rw (c .before .before .before .r .given .1, ← c .before .read-value .ensures) (c .limit-value .ensures)
+
+returns-5 : tie.Need-returns-5
+returns-5 c = rw (c .before .before .before .r2 .given .1, ← c .before .read-word .ensures) (c .limit-value2 .ensures)
 
 pub read-field-spec : {M : Type 1} → statement M
 read-field-spec =
@@ -40,6 +46,10 @@ read-field-spec =
     (λ c. search needs)
     read-value-requires
     (λ c κs. search needs)
+    (λ c. search needs)
+    read-word-requires
+    (λ c κs. search needs)
     returns-2
     (λ c. search needs)
-    returns-4)
+    returns-4
+    returns-5)
