@@ -135,8 +135,8 @@ unfolding listingOf endLine
 listing-of τ rs rest fs = rw (lines-of rs rest fs) (simp append-assoc)
 
 -- the limits that a closed block is held to
-pub fits : (r : Result) → length (r .block .name) ≤ 6 → anyBlank (r .block .name) ≡ false → r .held .area < 256 ^ 4 → length (r .held .flow) ≤ 300 → peakOf (r .held .flow) ≤ flowLimit
-    → Fits r
+pub fits : (r : Result) → length (r .block .name) ≤ 6 → anyBlank (r .block .name) ≡ false → r .held .area < 256 ^ 4
+    → length (r .held .flow) ≤ 300 → peakOf (r .held .flow) ≤ flowLimit → Fits r
 fits r short plain area long low =
     let q = r .held .flow in
     let times : length q * flowLimit ≤ 300 * flowLimit = mul-le-mul-right flowLimit long in

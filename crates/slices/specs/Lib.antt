@@ -1,3 +1,2 @@
--- Numbers in bytes, and that each contract leaves one outcome.
+-- Numbers in bytes.
 pub mod Bytes
-pub mod Unique

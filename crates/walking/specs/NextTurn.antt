@@ -46,7 +46,9 @@ module _ (deck : List ℕ) (named n m : ℕ) (s : State) (work ordinates records
     (r : Reading) (line at : ℕ) (cards′ : List ℕ) (ready : Ready r cards′) (x : Finished) (work′ ordinates′ records′ : List ℕ)
     (is : ClosedBy (r .phase) r (s .held) (s .blocks) named x work work′ ordinates ordinates′ records records′ cards′)
     (lw : length work′ ≡ length work) (lo : length ordinates′ ≡ length ordinates) (lr : length records′ ≡ length records) (t : Turn) where
-  pub kk-turn : (name : Name) → nextEvent (linesOf (drop (s .at) deck)) (readingIs (s .reading) cards) (s .line + 1) ≡ Met (Open (openedIn (readingIs r cards′) (nameIs name))) (readingIs r cards′) line (linesOf (drop at deck))
+  pub kk-turn : (name : Name)
+      → nextEvent (linesOf (drop (s .at) deck)) (readingIs (s .reading) cards) (s .line + 1)
+      ≡ Met (Open (openedIn (readingIs r cards′) (nameIs name))) (readingIs r cards′) line (linesOf (drop at deck))
       → at ≤ length deck → line ≤ at → s .at < at → (cards″ : List ℕ) → OpensNext r name at line x (s .blocks) t cards″
       → TurnIs deck named n m (s .at) t work′ ordinates′ records′ cards″
   kk-turn name found up counted forth cards″ o =
@@ -56,8 +58,10 @@ module _ (deck : List ℕ) (named n m : ℕ) (s : State) (work ordinates records
       ⊎-elim
       (λ few.
       let on = o .goes z few in
-      rw (on .ended)
-      (kk-goes deck named n m s work ordinates records cards g r line rest cards′ ready x work′ ordinates′ records′ is name found at refl up counted few lw lo lr z t cards″ on, rw (on .place) forth))
+      rw (on .ended) (
+        kk-goes deck named n m s work ordinates records cards g r line rest cards′ ready x work′ ordinates′ records′ is name found at refl up counted few lw lo lr z t cards″ on,
+        rw (on .place) forth,
+      ))
       (λ many.
       let stop = o .many z many in
       rw (stop .ended, stop .worked) (kk-too-many deck named n m s work ordinates records cards g r line rest cards′ ready x work′ ordinates′ records′ is name found z many))

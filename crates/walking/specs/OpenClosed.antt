@@ -51,7 +51,8 @@ module _ (named n m : ℕ) (r : Reading) (h : Stack) (blocks : ℕ) (x : Finishe
     idle q e c = record { held-is = rw (e, c .1, c .2); held = rw (e, c .1, c .2) held; carried = rw (e, c .3, c .4) carried }
 
     well-by : (p : Phase) → ReadingWithin (reading p) → CountBy p blocks (length rs) (h .depth)
-        → ClosedBy p r h blocks named x work work′ ordinates ordinates′ records records′ cards → ClosedWell named n m (reading p) now-standing (r .time .ordinates) x work′ ordinates′ records′
+        → ClosedBy p r h blocks named x work work′ ordinates ordinates′ records records′ cards
+        → ClosedWell named n m (reading p) now-standing (r .time .ordinates) x work′ ordinates′ records′
     unfolding withResult
     well-by phase.BeforeTime w k c = idle (reading phase.BeforeTime) refl c
     well-by phase.BeforeBlocks w k c = idle (reading phase.BeforeBlocks) refl c

@@ -27,7 +27,8 @@ use Rattle.walking.specs.declared.State.{State}
 use Rattle.walking.specs.Going.{CountBy, Going, MayClose}
 
 -- before the first result the number of ordinates asked for does not matter
-carried-moved : (named nq nq′ n m : ℕ) (rs : List Result) (ordinates records : List ℕ) → length rs ≡ 0 → Carried named nq n m rs ordinates records → Carried named nq′ n m rs ordinates records
+carried-moved : (named nq nq′ n m : ℕ) (rs : List Result) (ordinates records : List ℕ) → length rs ≡ 0
+    → Carried named nq n m rs ordinates records → Carried named nq′ n m rs ordinates records
 carried-moved named nq nq′ n m [] ordinates records e c =
     record { names = tt; n-long = c .n-long; m-long = c .m-long; flow = c .flow ∙ sym (carried-none named nq n m .flow) ∙ carried-none named nq′ n m .flow; told = c .told }
 carried-moved named nq nq′ n m (r ∷ rs) ordinates records e c = absurd (omega arith)
@@ -55,7 +56,8 @@ under-phase phase.BeforeTime τ τ′ form b h = absurd h
 under-phase phase.BeforeBlocks τ τ′ form b h = absurd h
 under-phase phase.InBlock τ τ′ form b h = (refl, h)
 
-count-outside : (p : Phase) (τ : Time) (form : Form) (b : Block) (blocks results depth : ℕ) → Outside (readingBy p τ form b) → (blocks ≡ 0) × (results ≡ 0) × (depth ≡ 0) → CountBy p blocks results depth
+count-outside : (p : Phase) (τ : Time) (form : Form) (b : Block) (blocks results depth : ℕ) → Outside (readingBy p τ form b)
+    → (blocks ≡ 0) × (results ≡ 0) × (depth ≡ 0) → CountBy p blocks results depth
 count-outside phase.BeforeTime τ form b blocks results depth o h = h
 count-outside phase.BeforeBlocks τ form b blocks results depth o h = h
 count-outside phase.InBlock τ form b blocks results depth o h = absurd o
