@@ -11,18 +11,12 @@ pub enum Answer {
 }
 
 // Refuses, and leaves nothing in what was lent.
-fn refuse(
-    number: u64,
-    line: u64,
-    work: &mut [u64],
-    ordinates: &mut [u64],
-    records: &mut [u8],
-) -> Answer
-    ensures { λ a. ⌜ outcomeIs a (now (work .exit)) (now (ordinates .exit)) (now (records .exit)) ≡ refused number line (lentAs (now (work .entry)) (now (ordinates .entry)) (now (records .entry))) ⌝ }
+fn refuse(number: u64, line: u64, words: &mut [u64], flows: &mut [u64], bytes: &mut [u8]) -> Answer
+    ensures { λ a. ⌜ outcomeIs a (now (words .exit)) (now (flows .exit)) (now (bytes .exit)) ≡ refused number line (lentAs (now (words .entry)) (now (flows .entry)) (now (bytes .entry))) ⌝ }
 {
-    slices::zero_words(work);
-    slices::zero_words(ordinates);
-    slices::zero_bytes(records);
+    slices::zero_words(words);
+    slices::zero_words(flows);
+    slices::fill_bytes(bytes, 0);
     Answer::Refused(number, line)
 }
 
@@ -57,7 +51,7 @@ pub fn run(
         return refuse(2, 0, work, ordinates, records);
     }
     slices::zero_words(ordinates);
-    slices::zero_bytes(records);
+    slices::fill_bytes(records, 0);
     let mut cards = [0u64; records::WORDS];
     let w = walking::walk_deck(deck, named, work, ordinates, records, &mut cards);
     if w.refused {

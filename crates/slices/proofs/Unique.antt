@@ -6,8 +6,6 @@ use Rattle.slices.proofs.zero_words.Kinds as zero-words
 use Rattle.slices.proofs.zero_words.Reads as zero-words-says
 use Rattle.slices.proofs.fill_bytes.Kinds as fill-bytes
 use Rattle.slices.proofs.fill_bytes.Reads as fill-bytes-says
-use Rattle.slices.proofs.zero_bytes.Kinds as zero-bytes
-use Rattle.slices.proofs.zero_bytes.Reads as zero-bytes-says
 use Rattle.slices.proofs.copy_words.Kinds as copy-words
 use Rattle.slices.proofs.copy_words.Reads as copy-words-says
 use Rattle.slices.proofs.put_le.Kinds as put-le
@@ -22,9 +20,6 @@ one-zero-words κs a x y e f p q = cc
 
 pub one-fill-bytes : Once fill-bytes.ps fill-bytes.r fill-bytes-says.Post (λ κs x y e f. now (e .0) ≡ now (f .0))
 one-fill-bytes κs a x y e f p q = cc
-
-pub one-zero-bytes : Once zero-bytes.ps zero-bytes.r zero-bytes-says.Post (λ κs x y e f. now (e .0) ≡ now (f .0))
-one-zero-bytes κs a x y e f p q = cc
 
 pub one-copy-words : Once copy-words.ps copy-words.r copy-words-says.Post (λ κs x y e f. now (e .0) ≡ now (f .0))
 one-copy-words κs a x y e f p q = cc

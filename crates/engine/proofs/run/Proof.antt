@@ -42,13 +42,13 @@ ordinates-long : (c : Walked) → length (ordinates c) ≡ length (entry c .args
 ordinates-long c = c .walk-deck .kept .1 .1 .1 .0 ∙ c .before .before .before .before .before .before .before .before .before .before .before .zero-words .kept .0
 
 records-long : (c : Walked) → length (records c) ≡ length (entry c .args .records .now)
-records-long c = c .walk-deck .kept .1 .1 .1 .1 .0 ∙ c .before .before .before .before .before .before .before .zero-bytes .kept .0
+records-long c = c .walk-deck .kept .1 .1 .1 .1 .0 ∙ c .before .before .before .before .before .before .before .fill-bytes .kept .0
 
 says : (c : Walked) (t : Bool) → c .walk-deck .result .refused ≡ t
     → let w = c .walk-deck .result in
     let x = entry c .args in
     WorkedBy t (x .deck .now) (x .named) (length (x .ordinates .now)) (length (x .records .now)) (w .number) (w .line) (w .nq) (w .blocks) (ordinates c) (records c)
-says c t is = rw (c .before .before .before .before .before .before .before .before .before .before .before .zero-words .kept .0, c .before .before .before .before .before .before .before .zero-bytes .kept .0, is) at (c .walk-deck .ensures)
+says c t is = rw (c .before .before .before .before .before .before .before .before .before .before .before .zero-words .kept .0, c .before .before .before .before .before .before .before .fill-bytes .kept .0, is) at (c .walk-deck .ensures)
 
 returns : tie.Need-returns
 returns c = let s = c .before .before .before .before .before .before .before .before .before .before .before .before .before .before .before in c .before .before .before .before .before .before .refuse .ensures ∙ little-work (s .args .deck .now) (s .args .named) (lent s) (c .before .before .before .before .before .before .before .before .before .before .if1 .taken)
@@ -59,7 +59,7 @@ returns-2 c = let s = c .before .before .before .before .before .before .before 
 walk-deck-requires : tie.Need-walk-deck-requires
 walk-deck-requires c κs =
     let z = c .before .before .before .before .before .before .before .before .before .before .zero-words in
-    let y = c .before .before .before .before .before .before .zero-bytes in
+    let y = c .before .before .before .before .before .before .fill-bytes in
     ((c .before .before .before .before .before .before .before .before .before .before .before .before .before .if1 .left, omega arith), (all-zeros (z .kept .0) (z .ensures), all-zeros (y .kept .0) (y .ensures)))
 
 returns-3 : tie.Need-returns-3
