@@ -10,9 +10,9 @@ use lib.Seq.{getD-set-same, getD-set-other}
 use Rattle.sequences.specs.Choices.{below-or-not}
 use mathlib.Core.Logic.{⊎-elim}
 use Rattle.meaning.specs.Words.{_=?_}
-use Rattle.meaning.specs.Records.{table, Item}
+use Rattle.meaning.specs.Records.{table, Item, rowOf}
 use Rattle.meaning.specs.Blocks.{Card, Absent, opened}
-use Rattle.records.specs.Rows.{items, start, wordsOf}
+use Rattle.records.specs.Rows.{items, mostIn, start, wordsOf}
 use Rattle.blocks.specs.Regions.{regions-set}
 use Rattle.blocks.specs.Cards.{regions, regionOf, headIn, cardIn, blockOf, Counted}
 use Rattle.blocks.specs.Taking.{named, all-regions}
@@ -56,4 +56,11 @@ module _ (w : List ℕ) (all : Clear items w) where
       ap (named name) (all-absent (regions w) (λ (p : ℕ) (h : p < length (regions w)). all p (rw (all-regions w) at h)) ∙ ap (λ (n : ℕ). replicate n Absent) (all-regions w))
 
   pub clear-kept : (nq : ℕ) → nq ≤ 300 → wordsOf table ≤ length w → Counted nq w
-  clear-kept nq few long = record { few = few; long = long; heads = λ (p : ℕ). ⊎-elim (λ h. rw (all p h) zero-le) (λ h. let k : length (regions w) ≤ p = rw (all-regions w) h in rw (List·getD-eq-default (regions w) [] k) zero-le) (below-or-not p items) }
+  clear-kept nq few long = record { few = few; long = long; heads = low }
+    where
+      low : (p : ℕ) → headIn (regionOf p w) ≤ suc (mostIn (rowOf p) nq)
+      low p =
+          ⊎-elim
+          (λ h. rw (all p h) zero-le)
+          (λ h. let k : length (regions w) ≤ p = rw (all-regions w) h in rw (List·getD-eq-default (regions w) [] k) zero-le)
+          (below-or-not p items)

@@ -75,8 +75,12 @@ among-next : (must may : Bool) (given : Bool) (m : ℕ) (ms : List ℕ)
 unfolding if_then_else_
 among-next true may true m ms = sym (among-behind true m ms)
 among-next true may false m ms = sym (not-behind false true (λ e. omega arith) m ms)
-among-next false true true m ms = sym (among-append (1 + 2 * m) (behind false ms) (behind true ms) ∙ rw (not-behind true false (λ e. omega arith) m ms, among-behind true m ms))
-among-next false true false m ms = sym (among-append (0 + 2 * m) (behind false ms) (behind true ms) ∙ rw (among-behind false m ms, not-behind false true (λ e. omega arith) m ms, or-false (among m ms)))
+among-next false true true m ms =
+    sym (among-append (1 + 2 * m) (behind false ms) (behind true ms)
+    ∙ rw (not-behind true false (λ e. omega arith) m ms, among-behind true m ms))
+among-next false true false m ms =
+    sym (among-append (0 + 2 * m) (behind false ms) (behind true ms)
+    ∙ rw (among-behind false m ms, not-behind false true (λ e. omega arith) m ms, or-false (among m ms)))
 among-next false false true m ms = sym (not-behind true false (λ e. omega arith) m ms)
 among-next false false false m ms = sym (among-behind false m ms)
 

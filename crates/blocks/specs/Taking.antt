@@ -126,15 +126,31 @@ module _ (item : Item) (nq count : ℕ) (vs w : List ℕ) (inside : item < items
           let fit : countBy h ≤ length x = omega (arith, count-low h (mostIn (rowOf item) nq) low, most-fits (rowOf item) nq (kept .few)) in
           rw (values-in h x, length-append (take (countBy h) x) (take n vs), length-take-le (countBy h) x fit, length-take-le n vs enough)
 
-  grown-region : over ≡ false → (length (grown r vs n) ≡ suc (roomOf item)) × (headIn (grown r vs n) ≡ suc (countBy (headIn r) + n)) × (cardIn (grown r vs n) ≡ Given (valuesOf (cardIn r) ++ take n vs))
+  -- a region with the values behind its own: its room, its head, its card
+  abbrev Grown : List ℕ → Type 0
+  Grown x =
+      (length (grown x vs n) ≡ suc (roomOf item))
+      × (headIn (grown x vs n) ≡ suc (countBy (headIn x) + n))
+      × (cardIn (grown x vs n) ≡ Given (valuesOf (cardIn x) ++ take n vs))
+
+  grown-region : over ≡ false → Grown r
   grown-region e = go r (region-long item w inside (kept .long)) (fits e)
     where
-      go : (x : List ℕ) → length x ≡ suc (roomOf item) → countBy (headIn x) + n ≤ roomOf item
-          → (length (grown x vs n) ≡ suc (roomOf item)) × (headIn (grown x vs n) ≡ suc (countBy (headIn x) + n)) × (cardIn (grown x vs n) ≡ Given (valuesOf (cardIn x) ++ take n vs))
+      go : (x : List ℕ) → length x ≡ suc (roomOf item) → countBy (headIn x) + n ≤ roomOf item → Grown x
       go [] l f = absurd (omega arith)
       go (h ∷ x) l f =
           let fit : countBy h + n ≤ length x = omega arith in
           (grown-long h x vs n fit enough ∙ l, ap headIn (grown-is h x vs n fit enough), grown-card h x vs n fit enough)
+
+  -- the cards with this record's as it is, and with the values behind its own
+  abbrev cards : List Card
+  cards = map cardIn (regions w)
+
+  same-cards : set cards item (cardIn r) ≡ cards
+  same-cards = ap (set cards item) (sym (card-at item [] w)) ∙ set-getD cards item Absent
+
+  more-cards : over ≡ false → (name : List ℕ) → set cards item (cardIn (grown r vs n)) ≡ set cards item (Given (valuesOf (cardOf item (blockOf name w)) ++ take n vs))
+  more-cards e name = ap (set cards item) (grown-region e .2 ∙ ap (λ (x : Card). Given (valuesOf x ++ take n vs)) (sym (card-at item name w)))
 
   number-is : (τ : Time) → τ .ordinates ≡ nq → (name : List ℕ) → over ≡ tooMany τ item (blockOf name w) (take n vs)
   unfolding tooMany
@@ -153,13 +169,13 @@ module _ (item : Item) (nq count : ℕ) (vs w : List ℕ) (inside : item < items
           let l = region-long item w inside (kept .long) in
           record {
             number = λ (τ : Time) same (name : List ℕ). rw (sym (number-is τ same name), o) a;
-            block = λ (name : List ℕ). rw (a, e) (block-after item w inside (kept .long) r l name ∙ ap (named name) (ap (set (map cardIn (regions w)) item) (sym (card-at item name w)) ∙ set-getD (map cardIn (regions w)) item Absent));
+            block = λ (name : List ℕ). rw (a, e) (block-after item w inside (kept .long) r l name ∙ ap (named name) same-cards);
             kept = rw e (kept-after item w inside (kept .long) r l nq kept (kept .heads item));
           }
       go false o a e =
           let g = grown-region o in
           record {
             number = λ (τ : Time) same (name : List ℕ). rw (sym (number-is τ same name), o) a;
-            block = λ (name : List ℕ). rw (a, e) (block-after item w inside (kept .long) (grown r vs n) (g .0) name ∙ ap (λ (x : Card). named name (set (map cardIn (regions w)) item x)) (g .2 ∙ ap (λ (x : Card). Given (valuesOf x ++ take n vs)) (sym (card-at item name w))));
+            block = λ (name : List ℕ). rw (a, e) (block-after item w inside (kept .long) (grown r vs n) (g .0) name ∙ ap (named name) (more-cards o name));
             kept = rw e (kept-after item w inside (kept .long) (grown r vs n) (g .0) nq kept (rw (g .1) (omega (arith, ltb-false (mostIn (rowOf item) nq) (countBy (headIn r) + n) o))));
           }

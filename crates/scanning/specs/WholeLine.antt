@@ -93,7 +93,9 @@ module _ (rules : List Rule) (ten : length rules ≤ 10) (raw : List (List ℕ))
       split : fs ++ replicate n [] ≡ filledUp rules fs ++ replicate (n - missing) []
       split =
           let e : n ≡ missing + (n - missing) = omega (arith, short) in
-          ap (λ (k : ℕ). fs ++ replicate k []) e ∙ ap (λ (l : List (List ℕ)). fs ++ l) (sym (replicate-append-replicate missing (n - missing) [])) ∙ sym (append-assoc fs (replicate missing []) (replicate (n - missing) []))
+          ap (λ (k : ℕ). fs ++ replicate k []) e
+          ∙ ap (λ (l : List (List ℕ)). fs ++ l) (sym (replicate-append-replicate missing (n - missing) []))
+          ∙ sym (append-assoc fs (replicate missing []) (replicate (n - missing) []))
 
       filled-length : length (filledUp rules fs) ≡ length rules
       filled-length = length-append fs (replicate missing []) ∙ rw (length-replicate {A = List ℕ} missing []) (omega (arith, short))

@@ -1,12 +1,12 @@
 -- The region of the record is lent; what is in it then is one law for every record.
-use Prim.Native.Nat.{ℕ, suc, _+_, _-_, _≤_}
+use Prim.Native.Nat.{ℕ, suc, _+_, _-_, _≤_, _<_}
 use mathlib.Core.Path.{_≡_, sym, _∙_}
 use mathlib.Core.List.{List}
 use native.Mathlib.Omega.{arith}
 use lib.ListN.{length}
 use Rattle.sequences.specs.Parts.{part}
-use Rattle.meaning.specs.Records.{rowOf}
-use Rattle.records.specs.Rows.{start, roomOf, mostIn, spanIn, next-start, span-by, most-by, most-fits, own-few}
+use Rattle.meaning.specs.Records.{table, rowOf}
+use Rattle.records.specs.Rows.{items, wordsOf, start, roomOf, mostIn, spanIn, next-start, span-by, most-by, most-fits, own-few}
 use Rattle.blocks.specs.Cards.{regionOf}
 use Rattle.blocks.specs.Taking.{region-part, region-fits, region-long, takes}
 use borrow.Author.Needs.{needs}
@@ -17,23 +17,29 @@ use Rattle.blocks.proofs.take_values.Tie as tie
 record Place (item from to : ℕ) (w : List ℕ) : Type 0 where
   begins : from ≡ start item
   ends : to ≡ from + suc (roomOf item)
+  wide : to - from ≡ suc (roomOf item)
   room : to - from - 1 ≡ roomOf item
   fits : to ≤ length w
 
-place : (c : tie.After-start-of2) → Place (c .before .before .before .before .args .item) (c .before .start-of .result) (c .start-of2 .result) (c .before .before .before .before .args .cards .now)
+place : (c : tie.After-start-of2)
+    → let x = c .before .before .before .before .args in Place (x .item) (c .before .start-of .result) (c .start-of2 .result) (x .cards .now)
 place c =
     let s = c .before .before .before .before in
     let h = next-start (s .args .item) (search needs) in
     let f = region-fits (s .args .item) (s .args .cards .now) (search needs) (s .pre .1 .1 .long) in
     let e : c .start-of2 .result ≡ c .before .start-of .result + suc (roomOf (s .args .item)) = omega (arith, c .before .start-of .ensures, c .start-of2 .ensures) in
-    record { begins = c .before .start-of .ensures; ends = e; room = omega arith; fits = omega (arith, c .before .start-of .ensures) }
+    record { begins = c .before .start-of .ensures; ends = e; wide = omega arith; room = omega arith; fits = omega (arith, c .before .start-of .ensures) }
+
+in-region : {item from to : ℕ} {w : List ℕ} → Place item from to w → item < items → wordsOf table ≤ length w → part from (to - from) w ≡ regionOf item w
+in-region {item} {from} {to} {w} p inside long = rw (p .wide, p .begins) (sym (region-part item w inside long))
 
 -- how many values are the record's, and how many it may have
 record Counts (item count nq n most : ℕ) : Type 0 where
   own : n ≡ spanIn (rowOf item) count
   bound : most ≡ mostIn (rowOf item) nq
 
-counts : (c : tie.After-most-by) → Counts (c .before .before .before .before .before .before .before .args .item) (c .before .before .before .before .before .before .before .args .count) (c .before .before .before .before .before .before .before .args .nq) (c .before .span-by .result) (c .most-by .result)
+counts : (c : tie.After-most-by)
+    → let x = c .before .before .before .before .before .before .before .args in Counts (x .item) (x .count) (x .nq) (c .before .span-by .result) (c .most-by .result)
 counts c =
     let x = c .before .before .before .before .before .before .before .args in
     let p = place (c .before .before .before) in
@@ -64,11 +70,8 @@ take-in-requires : tie.Need-take-in-requires
 take-in-requires c κs =
     let s = c .before .before .before .before .before .before .before .before in
     let x = s .args in
-    let p = place (c .before .before .before .before) in
     let k = counts (c .before) in
-    let e : c .before .before .before .before .start-of2 .result - c .before .before .before .before .before .start-of .result ≡ suc (roomOf (x .item)) = omega (arith, p .ends) in
-    let q : part (c .before .before .before .before .before .start-of .result) (c .before .before .before .before .start-of2 .result - c .before .before .before .before .before .start-of .result) (x .cards .now) ≡ regionOf (x .item) (x .cards .now) =
-    rw (e, p .begins) (sym (region-part (x .item) (x .cards .now) (search needs) (s .pre .1 .1 .long))) in
+    let q = in-region (place (c .before .before .before .before)) (search needs) (s .pre .1 .1 .long) in
     let n = own-few (x .item) (x .count) (search needs) (search needs) in
     let fit = most-fits (rowOf (x .item)) (x .nq) (s .pre .1 .1 .few) in (
       (omega (arith, n, k .own), omega (arith, n, k .own)),
@@ -81,12 +84,10 @@ returns c =
     let x = s .args in
     let p = place (c .before .before .before .before .before .before .before) in
     let k = counts (c .before .before .before .before) in
-    let e : c .before .before .before .before .before .before .before .start-of2 .result - c .before .before .before .before .before .before .before .before .start-of .result ≡ suc (roomOf (x .item)) = omega (arith, p .ends) in
-    let q : part (c .before .before .before .before .before .before .before .before .start-of .result) (c .before .before .before .before .before .before .before .start-of2 .result - c .before .before .before .before .before .before .before .before .start-of .result) (x .cards .now) ≡ regionOf (x .item) (x .cards .now) =
-    rw (e, p .begins) (sym (region-part (x .item) (x .cards .now) (search needs) (s .pre .1 .1 .long))) in
+    let q = in-region p (search needs) (s .pre .1 .1 .long) in
     let n = own-few (x .item) (x .count) (search needs) (search needs) in
     let t = c .before .before .take-in in
-    rw (e, p .begins)
+    rw (p .wide, p .begins)
     (takes (x .item) (x .nq) (x .count) (x .values .now) (x .cards .now) (search needs) (s .pre .1 .1) (omega (arith, n)) (s .pre .1 .0) (t .result) (t .last .0)
     (rw (q, k .own, k .bound) at (t .ensures .0)) (rw (q, k .own, k .bound) at (t .ensures .1)))
 

@@ -30,15 +30,6 @@ line-holds c =
 add-n : tie.Need-add-n Inv-loop μ-loop Inv-line μ-line
 add-n c = omega (arith, c .before .before .line .inv .counted)
 
-sub-l : tie.Need-sub-l Inv-loop μ-loop Inv-line μ-line
-sub-l c = let f = fair c in omega arith
-
-part-l-start : tie.Need-part-l-start Inv-loop μ-loop Inv-line μ-line
-part-l-start c = let f = fair c in omega arith
-
-part-l-end : tie.Need-part-l-end Inv-loop μ-loop Inv-line μ-line
-part-l-end c = let f = fair c in omega arith
-
 line-less : tie.Need-line-less Inv-loop μ-loop Inv-line μ-line
 line-less c = let f = fair (c .before .before .before .before) in omega arith
 
@@ -79,15 +70,6 @@ loop-holds c =
 next-span-requires : tie.Need-next-span-requires Inv-loop μ-loop Inv-line μ-line
 next-span-requires c κs = (omega (arith, small c), short (line-of (begun c)), c .before .before .loop .inv .3 .stands)
 
-sub-note-field : tie.Need-sub-note-field Inv-loop μ-loop Inv-line μ-line
-sub-note-field c = let f = spanned (c .before) in omega arith
-
-part-note-field-start : tie.Need-part-note-field-start Inv-loop μ-loop Inv-line μ-line
-part-note-field-start c = let f = spanned (c .before) in omega arith
-
-part-note-field-end : tie.Need-part-note-field-end Inv-loop μ-loop Inv-line μ-line
-part-note-field-end c = let f = spanned (c .before) in omega arith
-
 note-field-requires : tie.Need-note-field-requires Inv-loop μ-loop Inv-line μ-line
 note-field-requires c κs = (omega (arith, small (c .before .before .before)), c .before .before .before .before .before .loop .inv .3 .ten)
 
@@ -96,23 +78,24 @@ add-i c = omega (arith, small (c .before .before .before .before .before .before
 
 loop-less : tie.Need-loop-less Inv-loop μ-loop Inv-line μ-line
 loop-less c =
-    let l = c .before .before .before .before .before .before .before .before .before .loop in
-    let sp = c .before .before .before .before .before .before .next-span in
+    let p = c .before .before .before .before .before .before .before in
+    let l = p .before .before .loop in
+    let named = p .before .before .before .before .named-fields .result in
     let st = spanned (c .before .before .before .before .before .before) in
-    left-less (length (text (line-of (begun (c .before .before .before .before .before .before .before))))) (l .c) (l .i) (c .before .before .before .before .before .before .before .before .before .before .before .named-fields .result) (sp .result .next) (more (c .before .before .before .before .before .before .before)) (st .forth) (st .past)
+    left-less (length (text (line-of (begun p)))) (l .c) (l .i) named (c .before .before .before .before .before .before .next-span .result .next) (more p) (st .forth) (st .past)
 
 loop-again : tie.Need-loop-again Inv-loop μ-loop Inv-line μ-line
 loop-again c =
-    let v = c .before .before .before .before .before .before .before .before .before .loop .inv in
-    let sp = c .before .before .before .before .before .before .next-span in
+    let p = c .before .before .before .before .before .before .before in
+    let l = p .before .before .loop in
+    let v = l .inv in
+    let next = c .before .before .before .before .before .before .next-span .result .next in
     let st = spanned (c .before .before .before .before .before .before) in
     let nf = c .before .before .before .note-field in
-    let i = c .before .before .before .before .before .before .before .before .before .loop .i in
-    let rules = rulesBy (item-at (begun (c .before .before .before .before .before .before .before))) in
-    let fs = st .fields _ (more (c .before .before .before .before .before .before .before)) in
-    let named = c .before .before .before .before .before .before .before .before .before .before .before .named-fields .result in
-    let text-long = length (text (line-of (begun (c .before .before .before .before .before .before .before)))) in
-    let near = left-near text-long (c .before .before .before .before .before .before .before .before .before .loop .c) i named (sp .result .next) (v .3 .near) (few (c .before .before .before .before .before .before .before)) (more (c .before .before .before .before .before .before .before)) (st .forth) in
+    let rules = rulesBy (item-at (begun p)) in
+    let fs = st .fields _ (more p) in
+    let named = p .before .before .before .before .named-fields .result in
+    let near = left-near (length (text (line-of (begun p)))) (l .c) (l .i) named next (v .3 .near) (few p) (more p) (st .forth) in
     let sound = sym (nf .ensures .0) ∙ c .before .if4 .left in (
       v .0,
       v .1,
@@ -121,8 +104,8 @@ loop-again c =
         ten = nf .kept .0 ∙ v .3 .ten;
         stands = st .stands;
         near = near;
-        faults = fault-later rules i _ _ _ sound (rw fs at (v .3 .faults));
-        scans = scan-later rules i _ _ [] _ _ _ (nf .ensures .1 .0 (c .before .if4 .left)) (rw fs at (v .3 .scans));
+        faults = fault-later rules (l .i) _ _ _ sound (rw fs at (v .3 .faults));
+        scans = scan-later rules (l .i) _ _ [] _ _ _ (nf .ensures .1 .0 (c .before .if4 .left)) (rw fs at (v .3 .scans));
       },
     )
 
@@ -200,7 +183,7 @@ returns-6 c =
     record { found = ends-deck (turn at) _ (holds (c .before .before) ∙ stand _); onward = onward at event.Ended _ (at-line at .line .inv .letters) }
 
 same-length-7 : tie.Need-same-length-7 Inv-loop μ-loop Inv-line μ-line
-same-length-7 c = ap length (c .before .before .before .before .before .before .before .before .loop .inv .0) ∙ at-line (line-of (begun (c .before .before .before .before .before .before))) .line .inv .long
+same-length-7 c = let p = c .before .before .before .before .before .before in ap length (p .before .before .loop .inv .0) ∙ at-line (line-of (begun p)) .line .inv .long
 
 returns-7 : tie.Need-returns-7 Inv-loop μ-loop Inv-line μ-line
 returns-7 c =
@@ -215,7 +198,9 @@ returns-7 c =
     record { found = refused (line-of at) 6 (did at ∙ fault-event (item-at at) (x .r) (x .cards) _ (due at) fault); onward = tt }
 
 same-length-8 : tie.Need-same-length-8 Inv-loop μ-loop Inv-line μ-line
-same-length-8 c = c .before .before .before .take-line .kept .1 .1 .1 .1 .0 ∙ ap length (c .before .before .before .before .before .before .before .before .loop .inv .0) ∙ at-line (line-of (ended (c .before .before .before .before .before .before))) .line .inv .long
+same-length-8 c =
+    let p = c .before .before .before .before .before .before in
+    c .before .before .before .take-line .kept .1 .1 .1 .1 .0 ∙ ap length (p .before .before .loop .inv .0) ∙ at-line (line-of (ended p)) .line .inv .long
 
 returns-8 : tie.Need-returns-8 Inv-loop μ-loop Inv-line μ-line
 returns-8 c =
@@ -247,9 +232,9 @@ read-on-spec =
     line-holds
     (λ c κs. search needs)
     add-n
-    sub-l
-    part-l-start
-    part-l-end
+    (λ c. let f = fair c in omega arith)
+    (λ c. let f = fair c in omega arith)
+    (λ c. let f = fair c in omega arith)
     (λ c κs. search needs)
     (λ c. search needs)
     line-less
@@ -271,9 +256,9 @@ read-on-spec =
     (λ c κs. search needs)
     next-span-requires
     (λ c. search needs)
-    sub-note-field
-    part-note-field-start
-    part-note-field-end
+    (λ c. let f = spanned (c .before) in omega arith)
+    (λ c. let f = spanned (c .before) in omega arith)
+    (λ c. let f = spanned (c .before) in omega arith)
     note-field-requires
     add-i
     loop-less

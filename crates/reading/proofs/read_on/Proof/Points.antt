@@ -155,11 +155,15 @@ onward c e name few =
     record { ready = o .ready; within = f .within; forth = omega (arith, o .forth, f .goes-on); counted = omega (arith, o .counted, f .goes-on); letters = few }
 
 -- it holds a record
-pub holds : (c : Stood) → let at = c .before .before .before .before .before .before .before in readLine (stood at) (text at) ≡ readRecord (stood at) (text at) (recordIs (c .before .before .before .k .given .0 .0))
+abbrev pub line-stood : Stood → Fair
+line-stood c = c .before .before .before .before .before .before .before
+
+pub holds : (c : Stood)
+    → let at = line-stood c in readLine (stood at) (text at) ≡ readRecord (stood at) (text at) (recordIs (c .before .before .before .k .given .0 .0))
 holds c =
     let h = c .before .before .before .before .before .head-of in
     let k = c .before .before .before .k in
-    line-record (turn (c .before .before .before .before .before .before .before)) (h .result) (k .given .0 .0) (h .ensures .0) (k .given .1)
+    line-record (turn (line-stood c)) (h .result) (k .given .0 .0) (h .ensures .0) (k .given .1)
 
 -- with a name
 abbrev pub line-named : tie.After-read-name Inv-loop μ-loop Inv-line μ-line → Fair
