@@ -39,7 +39,8 @@ module _ (ls : List (List ℕ)) (r : Reading) (s : Standing) (n : ℕ) where
   -- ZZ
   module _ (τ : Time) (q : Reading) (line : ℕ) (rest : List (List ℕ)) (e : nextEvent ls r n ≡ Met (End τ) q line rest) where
     ended : walk ls r s n
-        ≡ andThen (stepUnless (first (openRefusal q s) (met (not (length (closed q s .held) =? 1)) 15)) line (Stop (Done τ (closed q s .results)))) (λ (r′ : Reading) (s′ : Standing). walk rest r′ s′ (line + 1))
+        ≡ andThen (stepUnless (first (openRefusal q s) (met (not (length (closed q s .held) =? 1)) 15)) line (Stop (Done τ (closed q s .results))))
+        (λ (r′ : Reading) (s′ : Standing). walk rest r′ s′ (line + 1))
     ended = found-walk (Met (End τ) q line rest) e
 
     pub end-refused : (number : ℕ) → openRefusal q s ≡ number → (number ≡ 0 → ⊥) → walk ls r s n ≡ Stopped number line

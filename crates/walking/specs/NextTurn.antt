@@ -46,7 +46,9 @@ module _ (deck : List ℕ) (named n m : ℕ) (s : State) (work ordinates records
     (r : Reading) (line at : ℕ) (cards′ : List ℕ) (ready : Ready r cards′) (x : Finished) (work′ ordinates′ records′ : List ℕ)
     (is : ClosedBy (r .phase) r (s .held) (s .blocks) named x work work′ ordinates ordinates′ records records′ cards′)
     (lw : length work′ ≡ length work) (lo : length ordinates′ ≡ length ordinates) (lr : length records′ ≡ length records) (t : Turn) where
-  pub kk-turn : (name : Name) → nextEvent (linesOf (drop (s .at) deck)) (readingIs (s .reading) cards) (s .line + 1) ≡ Met (Open (openedIn (readingIs r cards′) (nameIs name))) (readingIs r cards′) line (linesOf (drop at deck))
+  pub kk-turn : (name : Name)
+      → nextEvent (linesOf (drop (s .at) deck)) (readingIs (s .reading) cards) (s .line + 1)
+      ≡ Met (Open (openedIn (readingIs r cards′) (nameIs name))) (readingIs r cards′) line (linesOf (drop at deck))
       → at ≤ length deck → line ≤ at → s .at < at → (cards″ : List ℕ) → OpensNext r name at line x (s .blocks) t cards″
       → TurnIs deck named n m (s .at) t work′ ordinates′ records′ cards″
   kk-turn name found up counted forth cards″ o =

@@ -55,7 +55,8 @@ under-phase phase.BeforeTime τ τ′ form b h = absurd h
 under-phase phase.BeforeBlocks τ τ′ form b h = absurd h
 under-phase phase.InBlock τ τ′ form b h = (refl, h)
 
-count-outside : (p : Phase) (τ : Time) (form : Form) (b : Block) (blocks results depth : ℕ) → Outside (readingBy p τ form b) → (blocks ≡ 0) × (results ≡ 0) × (depth ≡ 0) → CountBy p blocks results depth
+count-outside : (p : Phase) (τ : Time) (form : Form) (b : Block) (blocks results depth : ℕ) → Outside (readingBy p τ form b)
+    → (blocks ≡ 0) × (results ≡ 0) × (depth ≡ 0) → CountBy p blocks results depth
 count-outside phase.BeforeTime τ form b blocks results depth o h = h
 count-outside phase.BeforeBlocks τ form b blocks results depth o h = h
 count-outside phase.InBlock τ form b blocks results depth o h = absurd o
