@@ -64,5 +64,7 @@ results-once κs a x y e f p q s t known flows room =
     let same = rw (s, t) at (told-once κs a x y e f p q) in
     let nq : y .nq ≡ x .nq = cc in
     let blocks : y .blocks ≡ x .blocks = cc in
-    let g′ = rw (nq, blocks) at g in
-    (flow-is _ _ _ _ _ _ known flows room _ _ d ∙ sym (flow-is _ _ _ _ _ _ known flows room _ _ g′), records-are _ _ _ _ _ _ known flows room _ _ d ∙ sym (records-are _ _ _ _ _ _ known flows room _ _ g′))
+    let g′ = rw (nq, blocks) at g in (
+      flow-is _ _ _ _ _ _ known flows room _ _ d ∙ sym (flow-is _ _ _ _ _ _ known flows room _ _ g′),
+      records-are _ _ _ _ _ _ known flows room _ _ d ∙ sym (records-are _ _ _ _ _ _ known flows room _ _ g′),
+    )

@@ -51,8 +51,8 @@ blocks-by phase.BeforeTime τ form b s = refl
 blocks-by phase.BeforeBlocks τ form b s = refl
 blocks-by phase.InBlock τ form b s = refl
 
-results-by : (p : Phase) (τ : Time) (form : Form) (b : Block) (s : Standing) (depth : ℕ) → CountBy p (s .blocks) (length (s .results)) depth
-    → length (closed (readingBy p τ form b) s .results) ≡ s .blocks
+results-by : (p : Phase) (τ : Time) (form : Form) (b : Block) (s : Standing) (depth : ℕ)
+    → CountBy p (s .blocks) (length (s .results)) depth → length (closed (readingBy p τ form b) s .results) ≡ s .blocks
 unfolding withResult
 results-by phase.BeforeTime τ form b s depth h = omega arith
 results-by phase.BeforeBlocks τ form b s depth h = omega arith
@@ -212,12 +212,12 @@ module _ (deck : List ℕ) (named n m : ℕ) (s : State) (work ordinates records
 
         pub zz-done : DoneIs deck named n m (r .time .ordinates) (s .blocks) ordinates″ records′
         zz-done =
+            let under = subst FoundTimed found (found-timed lines from (s .line + 1)) .0 in
             record {
               time = timeIn q;
               results = closed q stand .results;
               done = done;
-              ordinates-are = ap (λ (τ : Time). τ .ordinates)
-                  (timed-by (r .phase) (timeIs (r .time)) (formOf (r .free)) (blockIs r cards′) (subst FoundTimed found (found-timed lines from (s .line + 1)) .0) .0);
+              ordinates-are = ap (λ (τ : Time). τ .ordinates) (timed-by (r .phase) (timeIs (r .time)) (formOf (r .free)) (blockIs r cards′) under .0);
               blocks-are = as-many (End (timeIn q)) found lw lo lr none;
               few = few-by (r .phase) (s .blocks) (length (g .results)) (s .held .depth) (move (End (timeIn q)) found .count);
               told = w .carried .told;

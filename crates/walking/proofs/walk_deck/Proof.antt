@@ -1,12 +1,13 @@
 -- The loop's turns are those of the walk, and each goes on further behind in the deck.
 use Prim.Native.Nat.{ℕ, _-_}
 use mathlib.Core.Path.{_≡_, refl, _∙_}
+use mathlib.Core.Bool.{Bool}
 use mathlib.Core.List.{List}
 use native.Mathlib.Omega.{arith}
 use lib.ListN.{length}
 use borrow.Author.Needs.{needs}
 use Rattle.walking.specs.declared.State.{State}
-use Rattle.walking.specs.Going.{Going, TurnIs}
+use Rattle.walking.specs.Going.{Going, TurnBy}
 use Rattle.walking.specs.Start.{starts}
 use Rattle.walking.proofs.walk_deck.Statement.{statement}
 use Rattle.walking.proofs.walk_deck.Tie as tie
@@ -36,29 +37,61 @@ loop-holds c =
 step-requires : tie.Need-step-requires Inv-loop μ-loop
 step-requires c κs = let i = c .before .before .before .before .loop .inv in rw (i .ordinates-long, i .records-long) (i .going)
 
--- the turn, with the lengths as they were lent
-turned : (c : tie.After-step Inv-loop μ-loop)
-    → TurnIs (c .before .before .before .before .before .before .before .before .before .before .before .before .before .before .before .args .deck .now) (c .before .before .before .before .before .before .before .before .before .before .before .before .before .before .before .args .named) (length (c .before .before .before .before .before .before .before .before .before .before .before .before .before .before .before .args .ordinates .now)) (length (c .before .before .before .before .before .before .before .before .before .before .before .before .before .before .before .args .records .now)) (c .before .before .before .before .before .loop .s .at) (c .step .result)
-    (c .step .last .1 .1 .1 .0) (c .step .last .1 .1 .1 .1 .0) (c .step .last .1 .1 .1 .1 .1 .0) (c .step .last .1 .1 .1 .1 .1 .1 .0)
-turned c = let i = c .before .before .before .before .before .loop .inv in rw (i .ordinates-long, i .records-long) at (c .step .ensures)
+-- A TURN TAKEN: where the walk began, what was lent as it then is, its lengths as they were lent, and what the turn comes to
+abbrev Stepped : Type 0
+Stepped = tie.After-step Inv-loop μ-loop
+
+abbrev entry : Stepped → tie.Start Inv-loop μ-loop
+entry c = c .before .before .before .before .before .before .before .before .before .before .before .before .before .before .before
+
+abbrev work : Stepped → List ℕ
+work c = c .step .last .1 .1 .1 .0
+
+abbrev ordinates : Stepped → List ℕ
+ordinates c = c .step .last .1 .1 .1 .1 .0
+
+abbrev records : Stepped → List ℕ
+records c = c .step .last .1 .1 .1 .1 .1 .0
+
+abbrev cards : Stepped → List ℕ
+cards c = c .step .last .1 .1 .1 .1 .1 .1 .0
+
+work-kept : (c : Stepped) → length (work c) ≡ length (entry c .args .work .now)
+work-kept c = c .step .kept .1 .1 .1 .0 ∙ c .before .before .before .before .before .loop .inv .work-long
+
+ordinates-kept : (c : Stepped) → length (ordinates c) ≡ length (entry c .args .ordinates .now)
+ordinates-kept c = c .step .kept .1 .1 .1 .1 .0 ∙ c .before .before .before .before .before .loop .inv .ordinates-long
+
+records-kept : (c : Stepped) → length (records c) ≡ length (entry c .args .records .now)
+records-kept c = c .step .kept .1 .1 .1 .1 .1 .0 ∙ c .before .before .before .before .before .loop .inv .records-long
+
+cards-kept : (c : Stepped) → length (cards c) ≡ length (entry c .args .cards .now)
+cards-kept c =
+    let f = c .before .before .before .before .before .before .before .before .first-state in
+    c .step .kept .1 .1 .1 .1 .1 .1 .0 ∙ c .before .before .before .before .before .loop .inv .cards-long ∙ f .kept .0
+
+turned : (c : Stepped) (t : Bool) → c .step .result .ended ≡ t
+    → let x = entry c .args in
+    TurnBy t (x .deck .now) (x .named) (length (x .ordinates .now)) (length (x .records .now)) (c .before .before .before .before .before .loop .s .at)
+    (c .step .result .state) (c .step .result .worked) (work c) (ordinates c) (records c) (cards c)
+turned c t is = let i = c .before .before .before .before .before .loop .inv in rw (i .ordinates-long, i .records-long, is) at (c .step .ensures)
 
 returns : tie.Need-returns Inv-loop μ-loop
-returns c = rw (c .before .if1 .taken) at (turned (c .before .before .before .before .before .before .before .before .before .before))
+returns c = turned (c .before .before .before .before .before .before .before .before .before .before) _ (c .before .if1 .taken)
 
 loop-less : tie.Need-loop-less Inv-loop μ-loop
-loop-less c = let t = rw (c .before .if1 .left) at (turned (c .before .before .before .before .before .before .before .before .before .before)) in omega (arith, t .1, t .0 .up)
+loop-less c = let t = turned (c .before .before .before .before .before .before .before .before .before .before) _ (c .before .if1 .left) in omega (arith, t .1, t .0 .up)
 
 loop-again : tie.Need-loop-again Inv-loop μ-loop
 loop-again c =
-    let i = c .before .before .before .before .before .before .before .before .before .before .before .before .before .before .before .loop .inv in
-    let k = c .before .before .before .before .before .before .before .before .before .before .step .kept in
-    let t = rw (c .before .if1 .left) at (turned (c .before .before .before .before .before .before .before .before .before .before)) in
+    let p = c .before .before .before .before .before .before .before .before .before .before in
+    let t = turned p _ (c .before .if1 .left) in
     record {
       going = t .0;
-      work-long = k .1 .1 .1 .0 ∙ i .work-long;
-      ordinates-long = k .1 .1 .1 .1 .0 ∙ i .ordinates-long;
-      records-long = k .1 .1 .1 .1 .1 .0 ∙ i .records-long;
-      cards-long = k .1 .1 .1 .1 .1 .1 .0 ∙ i .cards-long;
+      work-long = work-kept p;
+      ordinates-long = ordinates-kept p;
+      records-long = records-kept p;
+      cards-long = p .step .kept .1 .1 .1 .1 .1 .1 .0 ∙ p .before .before .before .before .before .loop .inv .cards-long;
     }
 
 pub walk-deck-spec : {M : Type 1} → statement M
@@ -70,10 +103,10 @@ walk-deck-spec =
     (λ c κs. search needs)
     loop-holds
     step-requires
-    (λ c. c .before .before .before .before .before .before .before .before .before .before .step .kept .1 .1 .1 .0 ∙ c .before .before .before .before .before .before .before .before .before .before .before .before .before .before .before .loop .inv .work-long)
-    (λ c. c .before .before .before .before .before .before .before .before .before .before .step .kept .1 .1 .1 .1 .0 ∙ c .before .before .before .before .before .before .before .before .before .before .before .before .before .before .before .loop .inv .ordinates-long)
-    (λ c. c .before .before .before .before .before .before .before .before .before .before .step .kept .1 .1 .1 .1 .1 .0 ∙ c .before .before .before .before .before .before .before .before .before .before .before .before .before .before .before .loop .inv .records-long)
-    (λ c. c .before .before .before .before .before .before .before .before .before .before .step .kept .1 .1 .1 .1 .1 .1 .0 ∙ c .before .before .before .before .before .before .before .before .before .before .before .before .before .before .before .loop .inv .cards-long ∙ c .before .before .before .before .before .before .before .before .before .before .before .before .before .before .before .before .before .before .first-state .kept .0)
+    (λ c. work-kept (c .before .before .before .before .before .before .before .before .before .before))
+    (λ c. ordinates-kept (c .before .before .before .before .before .before .before .before .before .before))
+    (λ c. records-kept (c .before .before .before .before .before .before .before .before .before .before))
+    (λ c. cards-kept (c .before .before .before .before .before .before .before .before .before .before))
     returns
     loop-less
     loop-again)
