@@ -46,4 +46,5 @@ pub runs-in-any-order : (κs λs : Lfts 4) (a : Dens κs kinds.ps) (b : Dens λs
     → OrderFree τ bs cs (named κs a) (named λs b) (lent κs a) (lent λs b) (gave κs x e) (gave λs y f)
 runs-in-any-order κs λs a b x y e f τ bs cs nq blocks p q sound₁ sound₂ pairs accepted short room =
     let answer : gave κs x e .answer ≡ run.Accepted nq blocks = rw accepted in
-    rw (p, q) (order-does-not-matter (deck κs a) (deck λs b) (named κs a) (named λs b) (lent κs a) (lent λs b) τ τ bs cs nq blocks sound₁ sound₂ refl pairs (sym (ap (λ (o : Outcome). o .answer) p) ∙ answer) short room)
+    let first = sym (ap (λ (o : Outcome). o .answer) p) ∙ answer in
+    rw (p, q) (order-does-not-matter (deck κs a) (deck λs b) (named κs a) (named λs b) (lent κs a) (lent λs b) τ τ bs cs nq blocks sound₁ sound₂ refl pairs first short room)

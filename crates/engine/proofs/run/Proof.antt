@@ -1,5 +1,5 @@
 -- Each way out is a way through the meaning of a run.
-use Prim.Native.Nat.{ℕ}
+use Prim.Native.Nat.{ℕ, _≤_}
 use mathlib.Core.Path.{_≡_, sym, ap, _∙_}
 use mathlib.Core.Bool.{Bool}
 use mathlib.Core.List.{List}
@@ -44,57 +44,81 @@ ordinates-long c = c .walk-deck .kept .1 .1 .1 .0 ∙ c .before .before .before 
 records-long : (c : Walked) → length (records c) ≡ length (entry c .args .records .now)
 records-long c = c .walk-deck .kept .1 .1 .1 .1 .0 ∙ c .before .before .before .before .before .before .before .fill-bytes .kept .0
 
+enough : (c : Walked) → 6_000 ≤ length (entry c .args .work .now)
+enough c = c .before .before .before .before .before .before .before .before .before .before .before .before .before .before .if1 .left
+
+short : (c : Walked) → length (entry c .args .deck .now) ≤ 60_000
+short c = c .before .before .before .before .before .before .before .before .before .before .before .before .before .if2 .left
+
 says : (c : Walked) (t : Bool) → c .walk-deck .result .refused ≡ t
     → let w = c .walk-deck .result in
     let x = entry c .args in
     WorkedBy t (x .deck .now) (x .named) (length (x .ordinates .now)) (length (x .records .now)) (w .number) (w .line) (w .nq) (w .blocks) (ordinates c) (records c)
-says c t is = rw (c .before .before .before .before .before .before .before .before .before .before .before .zero-words .kept .0, c .before .before .before .before .before .before .before .fill-bytes .kept .0, is) at (c .walk-deck .ensures)
+says c t is =
+    let z = c .before .before .before .before .before .before .before .before .before .before .before .zero-words in
+    let y = c .before .before .before .before .before .before .before .fill-bytes in
+    rw (z .kept .0, y .kept .0, is) at (c .walk-deck .ensures)
 
 returns : tie.Need-returns
-returns c = let s = c .before .before .before .before .before .before .before .before .before .before .before .before .before .before .before in c .before .before .before .before .before .before .refuse .ensures ∙ little-work (s .args .deck .now) (s .args .named) (lent s) (c .before .before .before .before .before .before .before .before .before .before .if1 .taken)
+returns c =
+    let s = c .before .before .before .before .before .before .before .before .before .before .before .before .before .before .before in
+    let little = c .before .before .before .before .before .before .before .before .before .before .if1 .taken in
+    c .before .before .before .before .before .before .refuse .ensures ∙ little-work (s .args .deck .now) (s .args .named) (lent s) little
 
 returns-2 : tie.Need-returns-2
-returns-2 c = let s = c .before .before .before .before .before .before .before .before .before .before .before .before .before .before .before .before in c .before .before .before .before .before .before .refuse2 .ensures ∙ long-deck (s .args .deck .now) (s .args .named) (lent s) (c .before .before .before .before .before .before .before .before .before .before .before .if1 .left) (c .before .before .before .before .before .before .before .before .before .before .if2 .taken)
+returns-2 c =
+    let s = c .before .before .before .before .before .before .before .before .before .before .before .before .before .before .before .before in
+    let enough = c .before .before .before .before .before .before .before .before .before .before .before .if1 .left in
+    let long = c .before .before .before .before .before .before .before .before .before .before .if2 .taken in
+    c .before .before .before .before .before .before .refuse2 .ensures ∙ long-deck (s .args .deck .now) (s .args .named) (lent s) enough long
 
 walk-deck-requires : tie.Need-walk-deck-requires
 walk-deck-requires c κs =
     let z = c .before .before .before .before .before .before .before .before .before .before .zero-words in
     let y = c .before .before .before .before .before .before .fill-bytes in
-    ((c .before .before .before .before .before .before .before .before .before .before .before .before .before .if1 .left, omega arith), (all-zeros (z .kept .0) (z .ensures), all-zeros (y .kept .0) (y .ensures)))
+    let enough = c .before .before .before .before .before .before .before .before .before .before .before .before .before .if1 .left in
+    ((enough, omega arith), (all-zeros (z .kept .0) (z .ensures), all-zeros (y .kept .0) (y .ensures)))
 
 returns-3 : tie.Need-returns-3
 returns-3 c =
     let p = c .before .before .before .before .before .before .before .before .before .before .before .before .before .before .before .before .before .before in
     let x = entry p .args in
     let w = p .walk-deck .result in
+    let refused = c .before .before .before .before .before .before .before .before .before .before .if3 .taken in
     refused-as (x .deck .now) (x .named) (x .work .now) (x .ordinates .now) (x .records .now) (work p) (ordinates p) (records p) (work-long p) (ordinates-long p) (records-long p) _
     (w .number) (w .line) (c .before .before .before .before .before .before .refuse3 .ensures)
-    (stopped (x .deck .now) (x .named) (lent (entry p)) (c .before .before .before .before .before .before .before .before .before .before .before .before .before .before .before .before .before .before .before .before .before .before .before .before .before .before .before .before .before .before .before .before .if1 .left) (c .before .before .before .before .before .before .before .before .before .before .before .before .before .before .before .before .before .before .before .before .before .before .before .before .before .before .before .before .before .before .before .if2 .left) (w .number) (w .line) (says p _ (c .before .before .before .before .before .before .before .before .before .before .if3 .taken)))
+    (stopped (x .deck .now) (x .named) (lent (entry p)) (enough p) (short p) (w .number) (w .line) (says p _ refused))
 
 lacks-room-requires : tie.Need-lacks-room-requires
 lacks-room-requires c κs = says (c .before .before .before .before .before .before .before .before) _ (c .if3 .left) .few
 
 same-length-11 : tie.Need-same-length-11
-same-length-11 c = c .before .before .before .before .before .before .refuse4 .kept .1 .1 .1 .0 ∙ ordinates-long (c .before .before .before .before .before .before .before .before .before .before .before .before .before .before .before .before .before .before .before .before)
+same-length-11 c =
+    let p = c .before .before .before .before .before .before .before .before .before .before .before .before .before .before .before .before .before .before .before .before in
+    c .before .before .before .before .before .before .refuse4 .kept .1 .1 .1 .0 ∙ ordinates-long p
 
 returns-4 : tie.Need-returns-4
 returns-4 c =
     let p = c .before .before .before .before .before .before .before .before .before .before .before .before .before .before .before .before .before .before .before .before in
     let x = entry p .args in
     let w = p .walk-deck .result in
+    let well = c .before .before .before .before .before .before .before .before .before .before .before .before .if3 .left in
+    let lacks = c .before .before .before .before .before .before .before .before .before .before .if4 .taken in
     refused-as (x .deck .now) (x .named) (x .work .now) (x .ordinates .now) (x .records .now) (work p) (ordinates p) (records p) (work-long p) (ordinates-long p) (records-long p) _
     17 0 (c .before .before .before .before .before .before .refuse4 .ensures)
     (short-as (x .deck .now) (x .named) (x .work .now) (x .ordinates .now) (x .records .now) (work p) (ordinates p) (records p) (work-long p) (ordinates-long p) (records-long p)
-    (w .nq) (w .blocks) (c .before .before .before .before .before .before .before .before .before .before .before .before .before .before .before .before .before .before .before .before .before .before .before .before .before .before .before .before .before .before .before .before .before .before .if1 .left) (c .before .before .before .before .before .before .before .before .before .before .before .before .before .before .before .before .before .before .before .before .before .before .before .before .before .before .before .before .before .before .before .before .before .if2 .left) (says p _ (c .before .before .before .before .before .before .before .before .before .before .before .before .if3 .left)) (sym (c .before .before .before .before .before .before .before .before .before .before .before .lacks-room .ensures) ∙ c .before .before .before .before .before .before .before .before .before .before .if4 .taken))
+    (w .nq) (w .blocks) (enough p) (short p) (says p _ well) (sym (c .before .before .before .before .before .before .before .before .before .before .before .lacks-room .ensures) ∙ lacks))
 
 returns-5 : tie.Need-returns-5
 returns-5 c =
     let p = c .before .before .before .before .before .before .before .before .before .before .before .before .before .before in
     let x = entry p .args in
     let w = p .walk-deck .result in
+    let well = c .before .before .before .before .before .before .if3 .left in
+    let room = c .before .before .before .before .if4 .left in
     rw (c .before .before .zero-words2 .ensures)
     (accepted-as (x .deck .now) (x .named) (x .work .now) (x .ordinates .now) (x .records .now) (work p) (ordinates p) (records p) (work-long p) (ordinates-long p) (records-long p)
-    (w .nq) (w .blocks) (c .before .before .before .before .before .before .before .before .before .before .before .before .before .before .before .before .before .before .before .before .before .before .before .before .before .before .before .before .if1 .left) (c .before .before .before .before .before .before .before .before .before .before .before .before .before .before .before .before .before .before .before .before .before .before .before .before .before .before .before .if2 .left) (says p _ (c .before .before .before .before .before .before .if3 .left)) (sym (c .before .before .before .before .before .lacks-room .ensures) ∙ c .before .before .before .before .if4 .left))
+    (w .nq) (w .blocks) (enough p) (short p) (says p _ well) (sym (c .before .before .before .before .before .lacks-room .ensures) ∙ room))
 
 pub run-spec : {M : Type 1} → statement M
 run-spec =
