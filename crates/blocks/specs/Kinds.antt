@@ -1,15 +1,16 @@
 -- The kind of a block, from the records that are there.
 --     kind-by-mask   by their number alone
+--     kind-by-none   none, where their number is that of no set
 --     kind-told      no two kinds mean the same
 --     kind-must      a record that every set of a kind must have is there
 use Prim.Native.Nat.{ℕ, zero, suc, _+_, _<_}
 use mathlib.Core.Path.{_≡_, refl, sym, _∙_, ap}
-use mathlib.Core.Bool.{Bool, true, false, _&&_}
-use mathlib.Core.List.{List, [], _∷_}
+use mathlib.Core.Bool.{Bool, true, false, _&&_, _||_}
+use mathlib.Core.List.{List, [], _∷_, _++_}
 use native.Mathlib.Omega.{arith}
-use borrow.Author.Tests.{eq-eqb}
+use borrow.Author.Tests.{eq-eqb, ne-eqb}
 use lib.ListN.{length, getD, length-map}
-use Rattle.sequences.specs.Choices.{both-hold}
+use Rattle.sequences.specs.Choices.{both-hold, both-fail}
 use Rattle.meaning.specs.Words.{_=?_, if_then_else_}
 use Rattle.meaning.specs.Records.{Item}
 use Rattle.meaning.specs.Blocks as blocks
@@ -17,7 +18,7 @@ use Rattle.meaning.specs.Blocks.{Card, Absent, isGiven, Block, cardOf, kindNumb
 use Rattle.records.specs.Rows.{items}
 use Rattle.blocks.specs.Cards.{regions, cardIn, blockOf}
 use Rattle.blocks.specs.Taking.{all-regions}
-use Rattle.blocks.specs.Masks.{maskOf, masks, agrees-mask}
+use Rattle.blocks.specs.Masks.{maskOf, masks, among-append, agrees-mask}
 use Rattle.blocks.specs.declared.Kind.{Kind}
 use Rattle.blocks.specs.declared.Kind.the-variants.{NoKind, Basin, Inflow, Confluence, Reach}
 
@@ -63,6 +64,35 @@ by-masks (SetOf kind must may ∷ rest) b long = rw (agrees-mask must may 0 (b .
 pub kind-by-mask : (name w : List ℕ) → kindOf (blockOf name w) ≡ kindAt sets (maskOf (blockOf name w .cards))
 unfolding kindOf
 kind-by-mask name w = by-masks sets (blockOf name w) (block-long name w)
+
+-- NO KIND
+-- a number that is none of the keys, as a match tells it behind what it told before
+abbrev pub NoneOf : Type 0 → List ℕ → ℕ → Type 0
+NoneOf T [] m = T
+NoneOf T (k ∷ ks) m = NoneOf (T × (m ≡ k → ⊥)) ks m
+
+before : (T : Type 0) (ks : List ℕ) (m : ℕ) → NoneOf T ks m → T
+before T [] m h = h
+before T (k ∷ ks) m h = before (T × (m ≡ k → ⊥)) ks m h .0
+
+not-among : (T : Type 0) (ks : List ℕ) (m : ℕ) → NoneOf T ks m → among m ks ≡ false
+not-among T [] m h = refl
+not-among T (k ∷ ks) m h = rw (ne-eqb m k (before (T × (m ≡ k → ⊥)) ks m h .1)) (not-among (T × (m ≡ k → ⊥)) ks m h)
+
+-- the numbers of all sets
+abbrev pub keysOf : List Set → List ℕ
+keysOf [] = []
+keysOf (SetOf kind must may ∷ rest) = masks must may 0 items ++ keysOf rest
+
+no-set : (ss : List Set) (m : ℕ) → among m (keysOf ss) ≡ false → blocks.NoKind ≡ kindAt ss m
+unfolding if_then_else_
+no-set [] m h = refl
+no-set (SetOf kind must may ∷ rest) m h =
+    let both = both-fail (among m (masks must may 0 items)) (among m (keysOf rest)) (sym (among-append m (masks must may 0 items) (keysOf rest)) ∙ h) in
+    rw (both .0) (no-set rest m (both .1))
+
+pub kind-by-none : (m : ℕ) → NoneOf Unit (keysOf sets) m → blocks.NoKind ≡ kindAt sets m
+kind-by-none m h = no-set sets m (not-among Unit (keysOf sets) m h)
 
 -- WHAT A KIND HAS
 agrees-must : (must may : List Item) (cs : List Card) (i p : ℕ) → agreesFrom must may i cs ≡ true → p < length cs → among (i + p) must ≡ true → isGiven (getD cs p Absent) ≡ true

@@ -60,7 +60,7 @@ not-behind t s other m (x ∷ ms) =
     apart false true other m x e = omega arith
     apart false false other m x e = other refl
 
-among-append : (n : ℕ) (xs ys : List ℕ) → among n (xs ++ ys) ≡ (among n xs || among n ys)
+pub among-append : (n : ℕ) (xs ys : List ℕ) → among n (xs ++ ys) ≡ (among n xs || among n ys)
 among-append n [] ys = refl
 among-append n (x ∷ xs) ys = go (n =? x) (among-append n xs ys)
   where
