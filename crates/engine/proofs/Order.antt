@@ -9,7 +9,7 @@ use borrow.Fn.Kinds.{Dens}
 use denote.Ref.{now}
 use Rattle.sequences.specs.Contracts.{Result, Left}
 use Rattle.meaning.specs.Blocks.{Time, Block}
-use Rattle.meaning.specs.Run.{Outcome, Lent}
+use Rattle.meaning.specs.Run.{Outcome, Lent, deckSize}
 use Rattle.meaning.specs.Run as run
 use Rattle.network.specs.Network.{networkOf}
 use Rattle.network.specs.Order.{PairOff, said, Sound, Enough}
@@ -41,7 +41,7 @@ pub runs-in-any-order : (κs λs : Lfts 4) (a : Dens κs kinds.ps) (b : Dens λs
     → said (deck λs b) ≡ Sound τ cs
     → PairOff (networkOf bs) (networkOf cs)
     → x ≡ Accepted nq blocks
-    → length (deck λs b) ≤ 60_000
+    → length (deck λs b) ≤ deckSize
     → Enough τ cs (named λs b) (lent λs b)
     → OrderFree τ bs cs (named κs a) (named λs b) (lent κs a) (lent λs b) (gave κs x e) (gave λs y f)
 runs-in-any-order κs λs a b x y e f τ bs cs nq blocks p q sound₁ sound₂ pairs accepted short room =

@@ -11,7 +11,7 @@ use Rattle.sequences.specs.Choices.{both-fail}
 use Rattle.meaning.specs.Results.{recordSize}
 use Rattle.meaning.specs.Words.{_<?_}
 use Rattle.meaning.specs.Run as run
-use Rattle.meaning.specs.Run.{Outcome, Lent, refused, accepted, noRoom, outcome}
+use Rattle.meaning.specs.Run.{Outcome, Lent, refused, accepted, noRoom, outcome, workSize, deckSize}
 use Rattle.engine.specs.declared.Answer.{Answer}
 use Rattle.engine.specs.declared.Answer.the-variants as answer
 use Rattle.walking.specs.Going.{DoneIs}
@@ -43,7 +43,7 @@ module _ (deck : List ℕ) (named : ℕ) (work ordinates records work′ ordinat
       → refused number line (lentAs work ordinates records) ≡ outcome deck named (lentAs work ordinates records) → o ≡ outcome deck named (lentAs work ordinates records)
   refused-as o number line e f = e ∙ rw (lw, lo, lr) f
 
-  module _ (nq blocks : ℕ) (enough : 6_000 ≤ length work) (short : length deck ≤ 60_000) (d : DoneIs deck named (length ordinates) (length records) nq blocks ordinates′ records′) where
+  module _ (nq blocks : ℕ) (enough : workSize ≤ length work) (short : length deck ≤ deckSize) (d : DoneIs deck named (length ordinates) (length records) nq blocks ordinates′ records′) where
     room-is : noRoom named (d .time) (d .results) (lentAs work ordinates records) ≡ lacking nq blocks named (length ordinates′) (length records′)
     unfolding noRoom
     room-is = rw (lo, lr, d .ordinates-are, d .blocks-are)

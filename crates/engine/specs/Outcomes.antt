@@ -8,22 +8,22 @@ use lib.ListN.{length}
 use Rattle.meaning.specs.Words.{if_then_else_}
 use Rattle.meaning.specs.Blocks.{Time}
 use Rattle.meaning.specs.Results.{Result}
-use Rattle.meaning.specs.Run.{Stopped, Done, worked, Lent, refused, accepted, noRoom, settled, outcome}
+use Rattle.meaning.specs.Run.{Stopped, Done, worked, Lent, refused, accepted, noRoom, settled, outcome, workSize, deckSize}
 
 module _ (deck : List ℕ) (named : ℕ) (lent : Lent) where
-  pub little-work : lent .work < 6000 → refused 1 0 lent ≡ outcome deck named lent
+  pub little-work : lent .work < workSize → refused 1 0 lent ≡ outcome deck named lent
   unfolding outcome if_then_else_
-  little-work h = rw (lt-ltb (lent .work) 6000 h)
+  little-work h = rw (lt-ltb (lent .work) workSize h)
 
-  module _ (enough : 6000 ≤ lent .work) where
-    pub long-deck : 60000 < length deck → refused 2 0 lent ≡ outcome deck named lent
+  module _ (enough : workSize ≤ lent .work) where
+    pub long-deck : deckSize < length deck → refused 2 0 lent ≡ outcome deck named lent
     unfolding outcome if_then_else_
-    long-deck h = rw (le-ltb (lent .work) 6000 enough, lt-ltb 60000 (length deck) h)
+    long-deck h = rw (le-ltb (lent .work) workSize enough, lt-ltb deckSize (length deck) h)
 
-    module _ (short : length deck ≤ 60000) where
+    module _ (short : length deck ≤ deckSize) where
       settles : settled named lent (worked deck) ≡ outcome deck named lent
       unfolding outcome if_then_else_
-      settles = rw (le-ltb (lent .work) 6000 enough, le-ltb 60000 (length deck) short)
+      settles = rw (le-ltb (lent .work) workSize enough, le-ltb deckSize (length deck) short)
 
       pub stopped : (number line : ℕ) → worked deck ≡ Stopped number line → refused number line lent ≡ outcome deck named lent
       stopped number line e = rw e at settles

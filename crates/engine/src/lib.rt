@@ -4,6 +4,11 @@ ghost use Prim.Native.Nat.{_≤_};
 ghost use Rattle.meaning.specs.Run.{refused, outcome};
 ghost use Rattle.engine.specs.Answers.{outcomeIs, lentAs, lacking};
 
+// The words that a run works in, and the bytes that a deck may have.
+pub const WORK: usize = 6_000;
+
+const DECK: usize = 60_000;
+
 // The answer to a deck: the ordinates of each hydrograph and the blocks, or the number and the line of the refusal.
 pub enum Answer {
     Accepted(usize, usize),
@@ -44,10 +49,10 @@ pub fn run(
 ) -> Answer
     ensures { λ a. ⌜ outcomeIs a (now (work .exit)) (now (ordinates .exit)) (now (records .exit)) ≡ outcome (now (deck .entry)) named (lentAs (now (work .entry)) (now (ordinates .entry)) (now (records .entry))) ⌝ }
 {
-    if work.len() < 6000 {
+    if work.len() < WORK {
         return refuse(1, 0, work, ordinates, records);
     }
-    if deck.len() > 60000 {
+    if deck.len() > DECK {
         return refuse(2, 0, work, ordinates, records);
     }
     slices::zero_words(ordinates);

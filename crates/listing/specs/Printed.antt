@@ -14,7 +14,7 @@ use lib.ListN.{length, replicate}
 use Rattle.meaning.specs.Words.{_<?_, if_then_else_}
 use Rattle.meaning.specs.Blocks.{Time}
 use Rattle.meaning.specs.Results.{Result, recordSize}
-use Rattle.meaning.specs.Run.{Worked, Stopped, Done, worked, Lent, Answer, Accepted, Refused, Outcome, refused, noRoom, settled, outcome}
+use Rattle.meaning.specs.Run.{Worked, Stopped, Done, worked, Lent, Answer, Accepted, Refused, Outcome, refused, noRoom, settled, outcome, workSize, deckSize}
 use Rattle.meaning.specs.Listing.{refusedLine, listingBy, listing}
 use Rattle.engine.specs.declared.Answer as engine
 use Rattle.engine.specs.declared.Answer.the-variants as answer
@@ -26,7 +26,7 @@ use Rattle.listing.specs.Listed.{listing-of}
 use Rattle.listing.specs.Fitting.{Fitting, done-fits}
 
 abbrev pub lentRoom : Lent
-lentRoom = record { work = 6_000; ordinates = 300; records = recordsSize }
+lentRoom = record { work = workSize; ordinates = 300; records = recordsSize }
 
 abbrev pub printedOf : Answer → List ℕ → List ℕ
 printedOf (Accepted nq blocks) records = listingOf records blocks
@@ -61,12 +61,12 @@ by-length deck false = settled-prints deck (worked deck) refl
 
 pub run-prints : (deck : List ℕ) → Prints (listing deck) (outcome deck 0 lentRoom)
 unfolding outcome listing if_then_else_
-run-prints deck = by-length deck (60_000 <? length deck)
+run-prints deck = by-length deck (deckSize <? length deck)
 
 -- by the answer of the engine
 module _ (deck : List ℕ) (a : engine.Answer) {work ordinates records : List ℕ} {w q r : ℕ}
     (e : outcomeIs a work ordinates records ≡ outcome deck 0 (record { work = w; ordinates = q; records = r }))
-    (words : w ≡ 6_000) (flows : q ≡ 300) (bytes : r ≡ recordsSize) where
+    (words : w ≡ workSize) (flows : q ≡ 300) (bytes : r ≡ recordsSize) where
   prints : Prints (listing deck) (outcomeIs a work ordinates records)
   prints = rw (e, words, flows, bytes) (run-prints deck)
 

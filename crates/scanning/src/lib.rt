@@ -50,6 +50,7 @@ fn note(scan: Scan, k: usize, length: usize, outside: bool) -> Scan
     ensures { λ r. ⌜ (r .count ≡ (if blankBy length then scan .count else k + 1)) × (r .outside ≡ (scan .outside || outside)) ⌝ }
 {
     let flag = either(scan.outside, outside);
+    let before = scan.count;
     if 0 < length {
         return Scan {
             count: k + 1,
@@ -57,7 +58,7 @@ fn note(scan: Scan, k: usize, length: usize, outside: bool) -> Scan
         };
     }
     Scan {
-        count: scan.count,
+        count: before,
         outside: flag,
     }
 }

@@ -3,14 +3,14 @@ use Prim.Native.Nat.{ℕ, _≤_, zero-le}
 use mathlib.Core.Path.{_≡_, refl, _∙_}
 use mathlib.Core.List.{List, []}
 use lib.ListN.{length, replicate}
-use Rattle.meaning.specs.Run.{worked}
+use Rattle.meaning.specs.Run.{worked, workSize}
 use Rattle.closing.specs.BetweenBlocks.{carried-none, held-none}
 use Rattle.walking.specs.declared.State.{State}
 use Rattle.walking.specs.Going.{Going}
 use Rattle.walking.specs.Turns.{StateBegins}
 
 module _ (deck : List ℕ) (named : ℕ) (s : State) (work ordinates records cards : List ℕ) where
-  pub starts : StateBegins s cards → 6_000 ≤ length work → ordinates ≡ replicate (length ordinates) 0 → records ≡ replicate (length records) 0
+  pub starts : StateBegins s cards → workSize ≤ length work → ordinates ≡ replicate (length ordinates) 0 → records ≡ replicate (length records) 0
       → Going deck named (length ordinates) (length records) s work ordinates records cards
   unfolding worked
   starts b enough no-flow untold =

@@ -5,6 +5,7 @@ ghost use mathlib.Core.Path.{_≡_};
 ghost use Prim.Native.Nat.{_≤_};
 ghost use lib.ListN.{length, replicate};
 ghost use Rattle.meaning.specs.Records.{table};
+ghost use Rattle.meaning.specs.Run.{workSize};
 ghost use Rattle.records.specs.Rows.{wordsOf};
 ghost use Rattle.blocks.specs.Meant.{timeIs};
 ghost use Rattle.reading.specs.Readings.{blockIs};
@@ -166,7 +167,7 @@ pub fn walk_deck(
     records: &mut [u8],
     cards: &mut [u64],
 ) -> Worked
-    requires { ⌜ (6_000 ≤ length (now work)) × (wordsOf table ≤ length (now cards)) ⌝ }
+    requires { ⌜ (workSize ≤ length (now work)) × (wordsOf table ≤ length (now cards)) ⌝ }
     requires { ⌜ (now ordinates ≡ replicate (length (now ordinates)) 0) × (now records ≡ replicate (length (now records)) 0) ⌝ }
     ensures { λ w. ⌜ WorkedIs (now (deck .entry)) named (length (now (ordinates .entry))) (length (now (records .entry))) w (now (ordinates .exit)) (now (records .exit)) ⌝ }
 {

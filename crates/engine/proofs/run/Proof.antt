@@ -6,7 +6,7 @@ use mathlib.Core.List.{List}
 use native.Mathlib.Omega.{arith}
 use lib.ListN.{length, replicate}
 use borrow.Author.Needs.{needs}
-use Rattle.meaning.specs.Run.{Lent}
+use Rattle.meaning.specs.Run.{Lent, workSize, deckSize}
 use Rattle.walking.specs.Going.{WorkedBy}
 use Rattle.engine.specs.Outcomes.{little-work, long-deck, stopped}
 use Rattle.engine.specs.Answers.{lentAs, refused-as, short-as, accepted-as}
@@ -44,10 +44,10 @@ ordinates-long c = c .walk-deck .kept .1 .1 .1 .0 ∙ c .before .before .before 
 records-long : (c : Walked) → length (records c) ≡ length (entry c .args .records .now)
 records-long c = c .walk-deck .kept .1 .1 .1 .1 .0 ∙ c .before .before .before .before .before .before .before .fill-bytes .kept .0
 
-enough : (c : Walked) → 6_000 ≤ length (entry c .args .work .now)
+enough : (c : Walked) → workSize ≤ length (entry c .args .work .now)
 enough c = c .before .before .before .before .before .before .before .before .before .before .before .before .before .before .if1 .left
 
-short : (c : Walked) → length (entry c .args .deck .now) ≤ 60_000
+short : (c : Walked) → length (entry c .args .deck .now) ≤ deckSize
 short c = c .before .before .before .before .before .before .before .before .before .before .before .before .before .if2 .left
 
 says : (c : Walked) (t : Bool) → c .walk-deck .result .refused ≡ t
