@@ -43,13 +43,4 @@ pub mask-of-spec : {M : Type 1} → statement M
 mask-of-spec =
     tie.close
     (tie.spec
-    Inv-loop
-    μ-loop
-    loop-holds
-    (λ c. search needs)
-    mul-mask
-    (λ c κs. search needs)
-    add-mask
-    (λ c. search needs)
-    loop-again
-    returns)
+    Inv-loop μ-loop loop-holds (λ c. search needs) mul-mask (λ c κs. search needs) add-mask (λ c. search needs) loop-again returns)

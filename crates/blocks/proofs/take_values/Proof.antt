@@ -95,18 +95,5 @@ pub take-values-spec : {M : Type 1} → statement M
 take-values-spec =
     tie.close
     (tie.spec
-    (λ c κs. search needs)
-    (λ c. search needs)
-    (λ c κs. search needs)
-    sub-room
-    sub-room-2
-    (λ c κs. search needs)
-    (λ c κs. search needs)
-    (λ c κs. search needs)
-    mul-take-in
-    sub-take-in
-    part-take-in-start
-    part-take-in-end
-    take-in-requires
-    (λ c. search needs)
-    returns)
+    (λ c κs. search needs) (λ c. search needs) (λ c κs. search needs) sub-room sub-room-2 (λ c κs. search needs) (λ c κs. search needs)
+    (λ c κs. search needs) mul-take-in sub-take-in part-take-in-start part-take-in-end take-in-requires (λ c. search needs) returns)

@@ -104,15 +104,5 @@ pub close-block-spec : {M : Type 1} → statement M
 close-block-spec =
     tie.close
     (tie.spec
-    (λ c κs. search needs)
-    (λ c κs. search needs)
-    returns
-    make-requires
-    summarize-last-requires
-    (λ c κs. search needs)
-    (λ c. search needs)
-    returns-2
-    last-area-requires
-    (λ c κs. search needs)
-    (λ c. search needs)
-    returns-3)
+    (λ c κs. search needs) (λ c κs. search needs) returns make-requires summarize-last-requires (λ c κs. search needs) (λ c. search needs) returns-2
+    last-area-requires (λ c κs. search needs) (λ c. search needs) returns-3)

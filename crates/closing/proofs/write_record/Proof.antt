@@ -33,12 +33,5 @@ pub write-record-spec : {M : Type 1} → statement M
 write-record-spec =
     tie.close
     (tie.spec
-    (λ c. search needs)
-    (λ c. search needs)
-    returns
-    (λ c. search needs)
-    (λ c. search needs)
-    part-record-at-end
-    (λ c κs. search needs)
-    (λ c. search needs)
-    returns-2)
+    (λ c. search needs) (λ c. search needs) returns (λ c. search needs) (λ c. search needs) part-record-at-end (λ c κs. search needs)
+    (λ c. search needs) returns-2)

@@ -38,13 +38,4 @@ pub plain-end-spec : {M : Type 1} → statement M
 plain-end-spec =
     tie.close
     (tie.spec
-    Inv-loop
-    μ-loop
-    (λ c. search needs)
-    (λ c. search needs)
-    returns
-    returns-2
-    (λ c. search needs)
-    (λ c. search needs)
-    loop-again
-    returns-3)
+    Inv-loop μ-loop (λ c. search needs) (λ c. search needs) returns returns-2 (λ c. search needs) (λ c. search needs) loop-again returns-3)

@@ -28,21 +28,7 @@ pub make-spec : {M : Type 1} → statement M
 make-spec =
     tie.close
     (tie.spec
-    (λ c. search needs)
-    (λ c. search needs)
-    make-basin-requires
-    (λ c. search needs)
-    make-inflow-requires
-    (λ c. search needs)
-    make-confluence-requires
-    (λ c. search needs)
-    make-reach-requires
-    returns
-    (λ c. search needs)
-    (λ c. c .before .before .make-basin .ensures)
-    (λ c. search needs)
-    (λ c. c .before .before .make-inflow .ensures)
-    (λ c. search needs)
-    (λ c. c .before .before .make-confluence .ensures)
-    (λ c. search needs)
+    (λ c. search needs) (λ c. search needs) make-basin-requires (λ c. search needs) make-inflow-requires (λ c. search needs) make-confluence-requires
+    (λ c. search needs) make-reach-requires returns (λ c. search needs) (λ c. c .before .before .make-basin .ensures) (λ c. search needs)
+    (λ c. c .before .before .make-inflow .ensures) (λ c. search needs) (λ c. c .before .before .make-confluence .ensures) (λ c. search needs)
     (λ c. c .before .before .make-reach .ensures))

@@ -43,10 +43,4 @@ pub make-basin-spec : {M : Type 1} → statement M
 make-basin-spec =
     tie.close
     (tie.spec
-    (λ c κs. search needs)
-    (λ c κs. search needs)
-    (λ c κs. search needs)
-    (λ c κs. search needs)
-    hold-basin-requires
-    (λ c. search needs)
-    returns)
+    (λ c κs. search needs) (λ c κs. search needs) (λ c κs. search needs) (λ c κs. search needs) hold-basin-requires (λ c. search needs) returns)

@@ -52,16 +52,5 @@ pub read-digits-spec : {M : Type 1} → statement M
 read-digits-spec =
     tie.close
     (tie.spec
-    Inv-loop
-    μ-loop
-    loop-holds
-    (λ c. search needs)
-    returns
-    returns-2
-    mul-v
-    (λ c. search needs)
-    add-v
-    (λ c. search needs)
-    (λ c. search needs)
-    loop-again
-    returns-3)
+    Inv-loop μ-loop loop-holds (λ c. search needs) returns returns-2 mul-v (λ c. search needs) add-v (λ c. search needs) (λ c. search needs)
+    loop-again returns-3)

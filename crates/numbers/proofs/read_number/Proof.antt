@@ -35,12 +35,5 @@ pub read-number-spec : {M : Type 1} → statement M
 read-number-spec =
     tie.close
     (tie.spec
-    returns
-    returns-2
-    (λ c. search needs)
-    (λ c κs. search needs)
-    (λ c. omega (arith, sign c))
-    (λ c. omega (arith, sign c))
-    (λ c. search needs)
-    (λ c κs. search needs)
-    returns-3)
+    returns returns-2 (λ c. search needs) (λ c κs. search needs) (λ c. omega (arith, sign c)) (λ c. omega (arith, sign c)) (λ c. search needs)
+    (λ c κs. search needs) returns-3)

@@ -45,14 +45,5 @@ pub read-unsigned-spec : {M : Type 1} → statement M
 read-unsigned-spec =
     tie.close
     (tie.spec
-    (λ c κs. search needs)
-    count-digits-requires
-    returns
-    (λ c. search needs)
-    returns-2
-    (λ c. search needs)
-    read-digits-requires-2
-    returns-3
-    (λ c. search needs)
-    count-digits-requires-2
-    returns-4)
+    (λ c κs. search needs) count-digits-requires returns (λ c. search needs) returns-2 (λ c. search needs) read-digits-requires-2 returns-3
+    (λ c. search needs) count-digits-requires-2 returns-4)

@@ -224,64 +224,11 @@ pub read-on-spec : {M : Type 1} → statement M
 read-on-spec =
     tie.close
     (tie.spec
-    Inv-loop
-    μ-loop
-    Inv-line
-    μ-line
-    (λ c κs. search needs)
-    line-holds
-    (λ c κs. search needs)
-    add-n
-    (λ c. let f = fair c in omega arith)
-    (λ c. let f = fair c in omega arith)
-    (λ c. let f = fair c in omega arith)
-    (λ c κs. search needs)
-    (λ c. search needs)
-    line-less
-    line-again
-    (λ c. search needs)
-    (λ c. search needs)
-    place-record-requires
-    (λ c. search needs)
-    (λ c. search needs)
-    line-less-2
-    line-again-2
-    (λ c. search needs)
-    read-name-requires
-    (λ c. search needs)
-    (λ c. search needs)
-    named-fields-requires
-    (λ c κs. search needs)
-    loop-holds
-    (λ c κs. search needs)
-    next-span-requires
-    (λ c. search needs)
-    (λ c. let f = spanned (c .before) in omega arith)
-    (λ c. let f = spanned (c .before) in omega arith)
-    (λ c. let f = spanned (c .before) in omega arith)
-    note-field-requires
-    add-i
-    loop-less
-    loop-again
-    (λ c. search needs)
-    take-line-requires
-    line-less-3
-    line-again-3
-    same-length
-    returns
-    same-length-2
-    returns-2
-    same-length-3
-    returns-3
-    same-length-4
-    returns-4
-    same-length-5
-    returns-5
-    same-length-6
-    returns-6
-    same-length-7
-    returns-7
-    same-length-8
-    returns-8
-    same-length-9
-    returns-9)
+    Inv-loop μ-loop Inv-line μ-line (λ c κs. search needs) line-holds (λ c κs. search needs) add-n (λ c. let f = fair c in omega arith)
+    (λ c. let f = fair c in omega arith) (λ c. let f = fair c in omega arith) (λ c κs. search needs) (λ c. search needs) line-less line-again
+    (λ c. search needs) (λ c. search needs) place-record-requires (λ c. search needs) (λ c. search needs) line-less-2 line-again-2 (λ c. search needs)
+    read-name-requires (λ c. search needs) (λ c. search needs) named-fields-requires (λ c κs. search needs) loop-holds (λ c κs. search needs)
+    next-span-requires (λ c. search needs) (λ c. let f = spanned (c .before) in omega arith) (λ c. let f = spanned (c .before) in omega arith)
+    (λ c. let f = spanned (c .before) in omega arith) note-field-requires add-i loop-less loop-again (λ c. search needs) take-line-requires
+    line-less-3 line-again-3 same-length returns same-length-2 returns-2 same-length-3 returns-3 same-length-4 returns-4 same-length-5 returns-5
+    same-length-6 returns-6 same-length-7 returns-7 same-length-8 returns-8 same-length-9 returns-9)

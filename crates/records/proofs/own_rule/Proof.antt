@@ -28,24 +28,6 @@ pub own-rule-spec : {M : Type 1} → statement M
 own-rule-spec =
     tie.close
     (tie.spec
-    (λ c. search needs)
-    returns-2
-    (λ c. search needs)
-    (λ c. search needs)
-    (λ c. search needs)
-    (λ c. search needs)
-    returns-7
-    (λ c. search needs)
-    (λ c. search needs)
-    (λ c. search needs)
-    returns-11
-    (λ c. search needs)
-    (λ c. search needs)
-    (λ c. search needs)
-    returns-15
-    (λ c. search needs)
-    (λ c. search needs)
-    (λ c. search needs)
-    (λ c. search needs)
-    returns-20
-    returns-21)
+    (λ c. search needs) returns-2 (λ c. search needs) (λ c. search needs) (λ c. search needs) (λ c. search needs) returns-7 (λ c. search needs)
+    (λ c. search needs) (λ c. search needs) returns-11 (λ c. search needs) (λ c. search needs) (λ c. search needs) returns-15 (λ c. search needs)
+    (λ c. search needs) (λ c. search needs) (λ c. search needs) returns-20 returns-21)

@@ -40,16 +40,5 @@ pub read-field-spec : {M : Type 1} → statement M
 read-field-spec =
     tie.close
     (tie.spec
-    (λ c. search needs)
-    returns
-    (λ c. search needs)
-    (λ c. search needs)
-    read-value-requires
-    (λ c κs. search needs)
-    (λ c. search needs)
-    read-word-requires
-    (λ c κs. search needs)
-    returns-2
-    (λ c. search needs)
-    returns-4
-    returns-5)
+    (λ c. search needs) returns (λ c. search needs) (λ c. search needs) read-value-requires (λ c κs. search needs) (λ c. search needs)
+    read-word-requires (λ c κs. search needs) returns-2 (λ c. search needs) returns-4 returns-5)

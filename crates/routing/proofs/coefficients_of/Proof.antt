@@ -26,11 +26,5 @@ pub coefficients-of-spec : {M : Type 1} → statement M
 coefficients-of-spec =
     tie.close
     (tie.spec
-    (λ c. search needs)
-    mul-t6
-    (λ c. search needs)
-    mul-t8
-    (λ c. search needs)
-    (λ c. search needs)
-    mul-t11
+    (λ c. search needs) mul-t6 (λ c. search needs) mul-t8 (λ c. search needs) (λ c. search needs) mul-t11
     (λ c. (omega arith, omega arith, omega arith)))

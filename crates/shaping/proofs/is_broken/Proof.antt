@@ -7,14 +7,6 @@ pub is-broken-spec : {M : Type 1} → statement M
 is-broken-spec =
     tie.close
     (tie.spec
-    (λ c. search needs)
-    (λ c. search needs)
-    (λ c. search needs)
-    (λ c. search needs)
-    (λ c. search needs)
-    (λ c κs. search needs)
-    (λ c. λ name. rw (c .enum-told .given .1))
-    (λ c. λ name. rw (c .enum-told2 .given .1))
-    (λ c. λ name. rw (c .enum-told3 .given .1))
-    (λ c. λ name. rw (c .enum-told4 .given .1))
-    (λ c. λ name. rw (c .before .enum-told5 .given .1) (c .is-out-of-order .ensures name)))
+    (λ c. search needs) (λ c. search needs) (λ c. search needs) (λ c. search needs) (λ c. search needs) (λ c κs. search needs)
+    (λ c. λ name. rw (c .enum-told .given .1)) (λ c. λ name. rw (c .enum-told2 .given .1)) (λ c. λ name. rw (c .enum-told3 .given .1))
+    (λ c. λ name. rw (c .enum-told4 .given .1)) (λ c. λ name. rw (c .before .enum-told5 .given .1) (c .is-out-of-order .ensures name)))

@@ -37,8 +37,4 @@ pub refusal-by-spec : {M : Type 1} → statement M
 refusal-by-spec =
     tie.close
     (tie.spec
-    returns
-    returns-2
-    returns-3
-    returns-4
-    returns-5)
+    returns returns-2 returns-3 returns-4 returns-5)

@@ -36,12 +36,5 @@ pub shape-of-spec : {M : Type 1} → statement M
 shape-of-spec =
     tie.close
     (tie.spec
-    (λ c κs. search needs)
-    (λ c κs. search needs)
-    (λ c κs. search needs)
-    (λ c κs. search needs)
-    (λ c κs. search needs)
-    returns
-    (λ c. omega (arith, let-through (c .before) (c .if1 .left)))
-    (λ c. omega (arith, let-through (c .before) (c .if1 .left)))
-    returns-2)
+    (λ c κs. search needs) (λ c κs. search needs) (λ c κs. search needs) (λ c κs. search needs) (λ c κs. search needs) returns
+    (λ c. omega (arith, let-through (c .before) (c .if1 .left))) (λ c. omega (arith, let-through (c .before) (c .if1 .left))) returns-2)

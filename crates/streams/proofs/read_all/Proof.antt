@@ -69,17 +69,5 @@ pub read-all-spec : {M : Type 1} → statement M
 read-all-spec =
     tie.close
     (tie.spec
-    Inv-loop
-    μ-loop
-    loop-holds
-    sub-read-some
-    part-read-some-start
-    part-read-some-end
-    read-some-requires
-    same-length
-    returns
-    add-n
-    loop-less
-    loop-again
-    same-length-2
-    returns-2)
+    Inv-loop μ-loop loop-holds sub-read-some part-read-some-start part-read-some-end read-some-requires same-length returns add-n loop-less loop-again
+    same-length-2 returns-2)

@@ -34,14 +34,5 @@ pub close-open-spec : {M : Type 1} → statement M
 close-open-spec =
     tie.close
     (tie.spec
-    (λ c. search needs)
-    (λ c. search needs)
-    (λ c. search needs)
-    sub-k
-    finish-block-requires
-    returns
-    returns-2
-    (λ c. search needs)
-    (λ c. search needs)
-    (λ c. search needs)
-    returns-3)
+    (λ c. search needs) (λ c. search needs) (λ c. search needs) sub-k finish-block-requires returns returns-2 (λ c. search needs) (λ c. search needs)
+    (λ c. search needs) returns-3)

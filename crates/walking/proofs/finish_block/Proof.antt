@@ -62,11 +62,4 @@ pub finish-block-spec : {M : Type 1} → statement M
 finish-block-spec =
     tie.close
     (tie.spec
-    close-block-requires
-    (λ c. search needs)
-    returns
-    write-result-requires
-    (λ c. search needs)
-    (λ c. search needs)
-    (λ c. search needs)
-    returns-2)
+    close-block-requires (λ c. search needs) returns write-result-requires (λ c. search needs) (λ c. search needs) (λ c. search needs) returns-2)

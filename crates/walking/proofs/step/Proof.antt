@@ -128,28 +128,7 @@ pub step-spec : {M : Type 1} → statement M
 step-spec =
     tie.close
     (tie.spec
-    (λ c κs. search needs)
-    (λ c. search needs)
-    (λ c κs. search needs)
-    (λ c. search needs)
-    close-open-requires
-    open-next-requires
-    (λ c. search needs)
-    close-open-requires-2
-    end-deck-requires
-    (λ c. search needs)
-    (λ c κs. search needs)
-    (λ c. search needs)
-    returns
-    (λ c. search needs)
-    (λ c. search needs)
-    (λ c. search needs)
-    same-length-5
-    returns-2
-    (λ c. search needs)
-    (λ c. search needs)
-    (λ c. search needs)
-    same-length-9
-    returns-3
-    (λ c. search needs)
-    returns-4)
+    (λ c κs. search needs) (λ c. search needs) (λ c κs. search needs) (λ c. search needs) close-open-requires open-next-requires (λ c. search needs)
+    close-open-requires-2 end-deck-requires (λ c. search needs) (λ c κs. search needs) (λ c. search needs) returns (λ c. search needs)
+    (λ c. search needs) (λ c. search needs) same-length-5 returns-2 (λ c. search needs) (λ c. search needs) (λ c. search needs) same-length-9
+    returns-3 (λ c. search needs) returns-4)

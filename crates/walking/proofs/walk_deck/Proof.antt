@@ -98,15 +98,8 @@ pub walk-deck-spec : {M : Type 1} → statement M
 walk-deck-spec =
     tie.close
     (tie.spec
-    Inv-loop
-    μ-loop
-    (λ c κs. search needs)
-    loop-holds
-    step-requires
+    Inv-loop μ-loop (λ c κs. search needs) loop-holds step-requires
     (λ c. work-kept (c .before .before .before .before .before .before .before .before .before .before))
     (λ c. ordinates-kept (c .before .before .before .before .before .before .before .before .before .before))
     (λ c. records-kept (c .before .before .before .before .before .before .before .before .before .before))
-    (λ c. cards-kept (c .before .before .before .before .before .before .before .before .before .before))
-    returns
-    loop-less
-    loop-again)
+    (λ c. cards-kept (c .before .before .before .before .before .before .before .before .before .before)) returns loop-less loop-again)

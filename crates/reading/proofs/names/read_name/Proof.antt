@@ -41,12 +41,4 @@ pub read-name-spec : {M : Type 1} → statement M
 read-name-spec =
     tie.close
     (tie.spec
-    (λ c κs. search needs)
-    sub-f
-    part-f-start
-    part-f-end
-    (λ c κs. search needs)
-    (λ c κs. search needs)
-    returns
-    copy-name-requires
-    returns-2)
+    (λ c κs. search needs) sub-f part-f-start part-f-end (λ c κs. search needs) (λ c κs. search needs) returns copy-name-requires returns-2)

@@ -52,13 +52,5 @@ pub take-line-spec : {M : Type 1} → statement M
 take-line-spec =
     tie.close
     (tie.spec
-    returns
-    (λ c. search needs)
-    take-time-requires
-    (λ c. search needs)
-    (λ c. search needs)
-    take-values-requires
-    returns-2
-    returns-3
-    (λ c. search needs)
-    returns-4)
+    returns (λ c. search needs) take-time-requires (λ c. search needs) (λ c. search needs) take-values-requires returns-2 returns-3
+    (λ c. search needs) returns-4)

@@ -60,16 +60,6 @@ pub read-word-spec : {M : Type 1} → statement M
 read-word-spec =
     tie.close
     (tie.spec
-    Inv-loop
-    μ-loop
-    returns
-    loop-holds
-    (λ c. search needs)
-    returns-2
-    (λ c. omega (arith, c .before .shared-slice-known .given (c .before .before .before .loop .i)))
-    mul-v
-    add-v
-    (λ c. search needs)
-    (λ c. search needs)
-    loop-again
-    returns-3)
+    Inv-loop μ-loop returns loop-holds (λ c. search needs) returns-2
+    (λ c. omega (arith, c .before .shared-slice-known .given (c .before .before .before .loop .i))) mul-v add-v (λ c. search needs)
+    (λ c. search needs) loop-again returns-3)
