@@ -4,7 +4,7 @@ use Prim.Native.Nat.{ℕ}
 use mathlib.Core.Path.{_≡_, sym, _∙_}
 use mathlib.Core.List.{List, []}
 use denote.Ref.{now}
-use Rattle.sequences.specs.Contracts.{Once, OnceAt}
+use Rattle.sequences.specs.Contracts.{OnceAt}
 use Rattle.meaning.specs.Run as run
 use Rattle.meaning.specs.Run.{BeforeTime, BeforeBlocks, InBlock, Refuse, Go, Open, End}
 use Rattle.events.specs.NextEvent.{Found, Missing, Met}
@@ -12,12 +12,8 @@ use Rattle.blocks.specs.declared.Name.{Name}
 use Rattle.blocks.specs.Meant.{nameIs}
 use Rattle.reading.specs.declared.Event.{Event}
 use Rattle.reading.specs.declared.Event.the-variants as event
-use Rattle.reading.specs.Readings.{readingIs}
+use Rattle.placing.specs.Readings.{readingIs}
 use Rattle.reading.specs.Found.{FoundIs, Told, Refusal, Opening, Ending, Nothing, toldBy, told}
-use Rattle.reading.proofs.first_reading.Kinds as first-reading
-use Rattle.reading.proofs.first_reading.Reads as first-reading-says
-use Rattle.reading.proofs.open_block.Kinds as open-block
-use Rattle.reading.proofs.open_block.Reads as open-block-says
 use Rattle.reading.proofs.read_on.Kinds as read-on
 use Rattle.reading.proofs.read_on.Reads as read-on-says
 
@@ -43,9 +39,3 @@ found-told event.Missing r name line rest f h = rw (h .2)
 
 pub one-read-on : OnceAt read-on.ps read-on.r read-on-says.Post (λ κs a x y e f. told (a .0 .now) x (now (e .1 .1 .1 .1 .0)) ≡ told (a .0 .now) y (now (f .1 .1 .1 .1 .0)))
 one-read-on κs a x y e f p q = found-told (x .event) _ (x .name) (x .line) _ _ (p .found) ∙ sym (found-told (y .event) _ (y .name) (y .line) _ _ (q .found))
-
-pub one-first-reading : Once first-reading.ps first-reading.r first-reading-says.Post (λ κs x y e f. readingIs x (now (e .0)) ≡ readingIs y (now (f .0)))
-one-first-reading κs a x y e f p q = p .is ∙ sym (q .is)
-
-pub one-open-block : Once open-block.ps open-block.r open-block-says.Post (λ κs x y e f. readingIs x (now (e .1 .1 .0)) ≡ readingIs y (now (f .1 .1 .0)))
-one-open-block κs a x y e f p q = p .is ∙ sym (q .is)

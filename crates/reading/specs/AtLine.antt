@@ -32,11 +32,11 @@ use Rattle.blocks.specs.Cards.{blockOf}
 use Rattle.scanning.specs.Pass.{Scanned, noted, scanFrom}
 use Rattle.scanning.specs.FieldsLeft.{leftFields, left-first}
 use Rattle.scanning.specs.WholeLine.{Fresh, LineRead, line-read}
-use Rattle.reading.specs.declared.Phase.{Phase}
-use Rattle.reading.specs.declared.Phase.the-variants as phase
-use Rattle.reading.specs.declared.Reading.{Reading}
-use Rattle.reading.specs.Readings.{readingBy, readingIs, blockIs, formIn, inForm, openedIn, Ready}
-use Rattle.reading.specs.Places.{Due, fieldsEvent, nameEvent}
+use Rattle.placing.specs.declared.Phase.{Phase}
+use Rattle.placing.specs.declared.Phase.the-variants as phase
+use Rattle.placing.specs.declared.Reading.{Reading}
+use Rattle.placing.specs.Readings.{readingBy, readingIs, blockIs, formIn, inForm, openedIn, Ready}
+use Rattle.placing.specs.Places.{Due, fieldsEvent, nameEvent}
 
 -- At `at` the line from there to `end` is the next, behind n lines; the reading stands at q, and comes to f.
 pub record AtLine (s : List ℕ) (at end next n : ℕ) (q : run.Reading) (f : Found) : Type 0 where

@@ -9,7 +9,7 @@ use Rattle.meaning.specs.Run.{Refuse, Open, End}
 use Rattle.events.specs.NextEvent.{Found, Missing, Met, nextEvent}
 use Rattle.blocks.specs.declared.Name.{Name}
 use Rattle.blocks.specs.Meant.{nameIs}
-use Rattle.reading.specs.Readings.{timeIn, openedIn, readingIs, Ready}
+use Rattle.placing.specs.Readings.{timeIn, openedIn, readingIs, Ready}
 use Rattle.reading.specs.declared.Event.{Event}
 use Rattle.reading.specs.declared.Event.the-variants as event
 use Rattle.reading.specs.declared.Got.{Got}

@@ -1,86 +1,13 @@
 // Reading a deck from line to line, to the next event: a line that is refused, opens a block or ends the deck. It knows no hydrograph.
-mod names;
-mod places;
-mod taking;
-
 ghost use Prim.Native.Nat.{_≤_};
 ghost use lib.ListN.{length};
-ghost use Rattle.meaning.specs.Records.{table};
-ghost use Rattle.records.specs.Rows.{wordsOf};
-ghost use Rattle.reading.specs.Readings.{readingIs, Ready, Begins, Opens};
+ghost use Rattle.placing.specs.Readings.{readingIs, Ready};
 ghost use Rattle.reading.specs.Found.{Gets};
 use blocks::Name;
-use blocks::Time;
 use identifiers::Head;
+use placing::Placed;
+use placing::Reading;
 use scanning::Scan;
-
-// Where the reading stands: before IT; after IT, before the first KK; in a block.
-pub enum Phase {
-    BeforeTime,
-    BeforeBlocks,
-    InBlock,
-}
-
-// Where the reading stands, the form in force, the time control and the open block's name. The block's values stand in the words that are lent.
-pub struct Reading {
-    pub phase: Phase,
-    pub free: bool,
-    pub time: Time,
-    pub name: Name,
-}
-
-// Where a deck's reading begins: fixed form, no time control, no block.
-pub fn first_reading(cards: &mut [u64]) -> Reading
-    requires { ⌜ wordsOf table ≤ length (now cards) ⌝ }
-    ensures { λ r. ⌜ Begins r (now (cards .exit)) ⌝ }
-{
-    blocks::clear(cards);
-    Reading {
-        phase: Phase::BeforeTime,
-        free: false,
-        time: Time {
-            minutes: 0,
-            ordinates: 0,
-        },
-        name: names::no_name(),
-    }
-}
-
-// The block of that name opened, where the reading stands.
-pub fn open_block(r: Reading, name: Name, cards: &mut [u64]) -> Reading
-    requires { ⌜ (name .letters ≤ 6) × Ready r (now cards) ⌝ }
-    ensures { λ x. ⌜ Opens r name x (now (cards .exit)) ⌝ }
-{
-    blocks::clear(cards);
-    let time = r.time;
-    Reading {
-        phase: Phase::InBlock,
-        free: r.free,
-        time: time,
-        name: name,
-    }
-}
-
-// What a record does where the reading stands: it is out of place; the reading goes on in that form; it names a block; it ends the deck; it has fields.
-pub enum Placed {
-    Misplaced,
-    Passed(bool),
-    Named,
-    Last,
-    Fields(usize),
-}
-
-// A line's values taken: the refusal, 0 for none, and where the reading stands then.
-pub struct Read {
-    pub refusal: u64,
-    pub reading: Reading,
-}
-
-// The name that a KK line gives, and whether it is none.
-pub struct Label {
-    pub bad: bool,
-    pub name: Name,
-}
 
 // What reading on has come to: a line refused, a block opened, the deck ended; or no line is left.
 pub enum Event {
@@ -110,7 +37,7 @@ pub fn read_on(s: &[u8], from: usize, before: u64, start: Reading, cards: &mut [
     let mut n = before;
     let mut r = start;
     let mut event = Event::Missing;
-    let mut name = names::no_name();
+    let mut name = placing::no_name();
     let mut values = [0u64; 10];
     'line: while at < s.len() {
         let line = lines::line_at(s, at);
@@ -127,7 +54,7 @@ pub fn read_on(s: &[u8], from: usize, before: u64, start: Reading, cards: &mut [
                     event = Event::Refused(4);
                     break 'line;
                 }
-                Head::Holds(k) => match places::place_record(r, cards, k) {
+                Head::Holds(k) => match placing::place_record(r, cards, k) {
                     Placed::Misplaced => {
                         event = Event::Refused(5);
                         break 'line;
@@ -137,7 +64,7 @@ pub fn read_on(s: &[u8], from: usize, before: u64, start: Reading, cards: &mut [
                         continue 'line;
                     }
                     Placed::Named => {
-                        let label = names::read_name(r.free, l);
+                        let label = placing::read_name(r.free, l);
                         if label.bad {
                             event = Event::Refused(6);
                             break 'line;
@@ -181,7 +108,7 @@ pub fn read_on(s: &[u8], from: usize, before: u64, start: Reading, cards: &mut [
                                 i += 1;
                                 c = span.next;
                             } else {
-                                let x = taking::take_line(r, item, &values, scan, cards);
+                                let x = placing::take_line(r, item, &values, scan, cards);
                                 let refusal = x.refusal;
                                 if refusal != 0 {
                                     event = Event::Refused(refusal);

@@ -13,11 +13,11 @@ use Rattle.meaning.specs.Results.{Result, recordSize}
 use Rattle.meaning.specs.Run.{Stopped, Done, Standing, walk, worked, namedFlow}
 use Rattle.limits.specs.Within.{ReadingWithin}
 use Rattle.results.specs.Records.{recordsIn}
-use Rattle.reading.specs.declared.Phase.{Phase}
-use Rattle.reading.specs.declared.Phase.the-variants as phase
-use Rattle.reading.specs.declared.Reading.{Reading}
+use Rattle.placing.specs.declared.Phase.{Phase}
+use Rattle.placing.specs.declared.Phase.the-variants as phase
+use Rattle.placing.specs.declared.Reading.{Reading}
 use Rattle.blocks.specs.Meant.{timeIs}
-use Rattle.reading.specs.Readings.{readingIs, Ready, blockIs}
+use Rattle.placing.specs.Readings.{readingIs, Ready, blockIs}
 use Rattle.stack.specs.declared.Stack.{Stack}
 use Rattle.stack.specs.View.{view}
 use Rattle.walking.specs.declared.Finished.{Finished}

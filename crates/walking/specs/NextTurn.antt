@@ -13,10 +13,10 @@ use Rattle.sequences.specs.Parts.{part}
 use Rattle.meaning.specs.Lines.{linesOf}
 use Rattle.meaning.specs.Run.{Open, End}
 use Rattle.events.specs.NextEvent.{Met, nextEvent}
-use Rattle.reading.specs.declared.Reading.{Reading}
+use Rattle.placing.specs.declared.Reading.{Reading}
 use Rattle.blocks.specs.declared.Name.{Name}
 use Rattle.blocks.specs.Meant.{nameIs}
-use Rattle.reading.specs.Readings.{readingIs, timeIn, Ready, openedIn}
+use Rattle.placing.specs.Readings.{readingIs, timeIn, Ready, openedIn}
 use Rattle.walking.specs.declared.Finished.{Finished}
 use Rattle.walking.specs.declared.State.{State}
 use Rattle.walking.specs.declared.Turn.{Turn}

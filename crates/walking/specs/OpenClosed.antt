@@ -11,12 +11,12 @@ use Rattle.meaning.specs.Run as run
 use Rattle.meaning.specs.Run.{Standing, openRefusal, closed, withResult}
 use Rattle.limits.specs.Within.{ReadingWithin}
 use Rattle.fields.specs.Spans.{formOf}
-use Rattle.reading.specs.declared.Phase.{Phase}
-use Rattle.reading.specs.declared.Phase.the-variants as phase
-use Rattle.reading.specs.declared.Reading.{Reading}
+use Rattle.placing.specs.declared.Phase.{Phase}
+use Rattle.placing.specs.declared.Phase.the-variants as phase
+use Rattle.placing.specs.declared.Reading.{Reading}
 use Rattle.blocks.specs.Meant.{timeIs}
-use Rattle.reading.specs.Readings.{readingIs, readingBy, blockIs}
-use Rattle.reading.specs.Labels.{name-short}
+use Rattle.placing.specs.Readings.{readingIs, readingBy, blockIs}
+use Rattle.placing.specs.Labels.{name-short}
 use Rattle.stack.specs.declared.Stack.{Stack}
 use Rattle.stack.specs.View.{view}
 use Rattle.walking.specs.declared.Finished.{Finished}

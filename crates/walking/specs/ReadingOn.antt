@@ -15,11 +15,11 @@ use Rattle.events.specs.NextEvent.{Met, nextEvent}
 use Rattle.limits.specs.Within.{ReadingWithin, EventWithin, FoundWithin, found-within}
 use Rattle.events.specs.TimeControl.{Under, FoundUnder, found-under, Outside, FoundOutside, found-outside}
 use Rattle.fields.specs.Spans.{formOf}
-use Rattle.reading.specs.declared.Phase.{Phase}
-use Rattle.reading.specs.declared.Phase.the-variants as phase
-use Rattle.reading.specs.declared.Reading.{Reading}
+use Rattle.placing.specs.declared.Phase.{Phase}
+use Rattle.placing.specs.declared.Phase.the-variants as phase
+use Rattle.placing.specs.declared.Reading.{Reading}
 use Rattle.blocks.specs.Meant.{timeIs}
-use Rattle.reading.specs.Readings.{readingIs, readingBy, Ready, blockIs}
+use Rattle.placing.specs.Readings.{readingIs, readingBy, Ready, blockIs}
 use Rattle.stack.specs.declared.Stack.{Stack}
 use Rattle.stack.specs.View.{view}
 use Rattle.closing.specs.BetweenBlocks.{Carried, carried-none, HeldAfter}

@@ -3,11 +3,11 @@ use Prim.Native.Nat.{ℕ, _+_}
 use mathlib.Core.Path.{_≡_}
 use mathlib.Core.Bool.{true, false}
 use mathlib.Core.List.{List}
-use Rattle.reading.specs.declared.Reading.{Reading}
+use Rattle.placing.specs.declared.Reading.{Reading}
 use Rattle.blocks.specs.declared.Name.{Name}
 use Rattle.stack.specs.declared.Stack.{Stack}
 use Rattle.stack.specs.View.{noneHeld}
-use Rattle.reading.specs.Readings.{Begins, Opens}
+use Rattle.placing.specs.Readings.{Begins, Opens}
 use Rattle.walking.specs.declared.State.{State}
 use Rattle.walking.specs.declared.Worked.{Worked}
 use Rattle.walking.specs.declared.Turn.{Turn}

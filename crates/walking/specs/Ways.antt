@@ -17,13 +17,13 @@ use Rattle.meaning.specs.Run.{InBlock, Open, End, Standing, openRefusal, closed
 use Rattle.events.specs.NextEvent.{Met, nextEvent}
 use Rattle.events.specs.TimeControl.{Timed, FoundTimed, found-timed}
 use Rattle.fields.specs.Spans.{formOf}
-use Rattle.reading.specs.declared.Phase.{Phase}
-use Rattle.reading.specs.declared.Phase.the-variants as phase
-use Rattle.reading.specs.declared.Reading.{Reading}
+use Rattle.placing.specs.declared.Phase.{Phase}
+use Rattle.placing.specs.declared.Phase.the-variants as phase
+use Rattle.placing.specs.declared.Reading.{Reading}
 use Rattle.blocks.specs.declared.Name.{Name}
 use Rattle.blocks.specs.declared.Time as times
 use Rattle.blocks.specs.Meant.{timeIs, nameIs}
-use Rattle.reading.specs.Readings.{readingIs, readingBy, timeIn, formIn, Ready, openedIn, blockIs}
+use Rattle.placing.specs.Readings.{readingIs, readingBy, timeIn, formIn, Ready, openedIn, blockIs}
 use Rattle.stack.specs.declared.Stack.{Stack}
 use Rattle.stack.specs.View.{view, length-held}
 use Rattle.walking.specs.declared.Finished.{Finished}

@@ -8,12 +8,12 @@ ghost use Rattle.meaning.specs.Records.{table};
 ghost use Rattle.meaning.specs.Run.{workSize};
 ghost use Rattle.records.specs.Rows.{wordsOf};
 ghost use Rattle.blocks.specs.Meant.{timeIs};
-ghost use Rattle.reading.specs.Readings.{blockIs};
+ghost use Rattle.placing.specs.Readings.{blockIs};
 ghost use Rattle.walking.specs.Going.{MayFinish, Finishes, MayClose, ClosedBy, Going, TurnIs, WorkedIs};
 ghost use Rattle.walking.specs.Turns.{StateBegins};
+use placing::Phase;
+use placing::Reading;
 use reading::Event;
-use reading::Phase;
-use reading::Reading;
 use stack::Stack;
 
 // Where the walk stands between two blocks: the reading, what is held, the place in the deck, the lines passed, and the blocks opened.
@@ -116,7 +116,7 @@ fn first_state(cards: &mut [u64]) -> State
     ensures { λ s. ⌜ StateBegins s (now (cards .exit)) ⌝ }
 {
     State {
-        reading: reading::first_reading(cards),
+        reading: placing::first_reading(cards),
         held: stack::hold_none(),
         at: 0,
         line: 0,

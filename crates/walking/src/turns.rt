@@ -4,7 +4,7 @@ use super::State;
 use super::Turn;
 use super::Worked;
 use blocks::Name;
-use reading::Reading;
+use placing::Reading;
 use stack::Stack;
 ghost use mathlib.Core.Path.{_≡_};
 ghost use mathlib.Core.Bool.{true};
@@ -12,7 +12,7 @@ ghost use Prim.Native.Nat.{_-_, _*_, _≤_};
 ghost use lib.ListN.{length};
 ghost use Rattle.sequences.specs.Parts.{part};
 ghost use Rattle.stack.specs.View.{Fits};
-ghost use Rattle.reading.specs.Readings.{Ready};
+ghost use Rattle.placing.specs.Readings.{Ready};
 ghost use Rattle.walking.specs.Turns.{Stops, GoesOn, workedWell};
 ghost use Rattle.walking.specs.Ways.{copiedLast};
 ghost use Rattle.walking.specs.NextTurn.{OpensNext, EndsDeck};
@@ -50,7 +50,7 @@ fn go_on(
     Turn {
         ended: false,
         state: State {
-            reading: reading::open_block(r, name, cards),
+            reading: placing::open_block(r, name, cards),
             held: held,
             at: at,
             line: line,

@@ -16,7 +16,7 @@ use Rattle.fields.specs.Turns.{first-stands}
 use Rattle.records.specs.Rows.{rulesBy}
 use Rattle.scanning.specs.FieldsLeft.{left-less, left-near}
 use Rattle.reading.specs.declared.Event.the-variants as event
-use Rattle.reading.specs.Places.{due-known}
+use Rattle.placing.specs.Places.{due-known}
 use Rattle.reading.specs.AtLine.{goes, opens-block, ends-deck, line-skipped, line-unknown, foreign-found, none-found, pass-fault, fault-event, in-form, ready-form, name-bad, name-good, unless-met, unless-none, fault-here, fault-later, scan-later}
 use Rattle.reading.proofs.read_on.Statement.{statement}
 use Rattle.reading.proofs.read_on.Tie as tie
@@ -25,7 +25,7 @@ use Rattle.reading.proofs.read_on.Proof.Points.{Inv-loop, μ-loop, Inv-
 line-holds : tie.Need-line-holds Inv-loop μ-loop Inv-line μ-line
 line-holds c =
     let s = c .before .before .before in
-    record { up = omega arith; forth = le-refl (s .args .from); counted = s .pre .0 .1; waiting = refl; ready = s .pre .1; long = refl; ten = refl; letters = c .no-name .ensures; done = refl }
+    record { up = omega arith; forth = le-refl (s .args .from); counted = s .pre .0 .1; waiting = refl; ready = s .pre .1; long = refl; ten = refl; letters = c .no-name .ensures .1; done = refl }
 
 add-n : tie.Need-add-n Inv-loop μ-loop Inv-line μ-line
 add-n c = omega (arith, c .before .before .line .inv .counted)

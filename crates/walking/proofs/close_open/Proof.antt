@@ -3,7 +3,7 @@ use Prim.Native.Nat.{_≤_, _+_, _-_}
 use mathlib.Core.Path.{_≡_, refl}
 use native.Mathlib.Omega.{arith}
 use borrow.Author.Needs.{needs}
-use Rattle.reading.specs.declared.Phase.the-variants as phase
+use Rattle.placing.specs.declared.Phase.the-variants as phase
 use Rattle.walking.proofs.close_open.Statement.{statement}
 use Rattle.walking.proofs.close_open.Tie as tie
 

@@ -8,7 +8,7 @@ use Rattle.limits.specs.Within.{ReadingWithin}
 use Rattle.meaning.specs.Run.{InBlock}
 use Rattle.fields.specs.Spans.{formOf}
 use Rattle.blocks.specs.Meant.{timeIs}
-use Rattle.reading.specs.Readings.{blockIs}
+use Rattle.placing.specs.Readings.{blockIs}
 use Rattle.closing.specs.BetweenBlocks.{held-within}
 use Rattle.walking.proofs.finish_block.Statement.{statement}
 use Rattle.walking.proofs.finish_block.Tie as tie

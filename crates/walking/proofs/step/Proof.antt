@@ -9,7 +9,7 @@ use Rattle.reading.specs.declared.Event.the-variants as event
 use Rattle.reading.specs.declared.Event.{Event}
 use Rattle.meaning.specs.Lines.{linesOf}
 use Rattle.events.specs.NextEvent.{nextEvent}
-use Rattle.reading.specs.Readings.{readingIs}
+use Rattle.placing.specs.Readings.{readingIs}
 use Rattle.reading.specs.Found.{FoundIs, Onward, OnwardBy}
 use Rattle.walking.specs.Events.{walk-missing, walk-refused}
 use Rattle.walking.specs.ReadingOn.{may-close}

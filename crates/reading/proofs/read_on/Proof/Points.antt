@@ -25,9 +25,9 @@ use Rattle.scanning.specs.FieldsLeft.{SpanTurn, span-turn, leftBy, leftFields, 
 use Rattle.blocks.specs.declared.Name.{Name}
 use Rattle.reading.specs.declared.Event as events
 use Rattle.reading.specs.declared.Event.the-variants as event
-use Rattle.reading.specs.declared.Reading.{Reading}
-use Rattle.reading.specs.Readings.{readingIs, Ready}
-use Rattle.reading.specs.Places.{Due, nameEvent, fieldsEvent}
+use Rattle.placing.specs.declared.Reading.{Reading}
+use Rattle.placing.specs.Readings.{readingIs, Ready}
+use Rattle.placing.specs.Places.{Due, nameEvent, fieldsEvent}
 use Rattle.reading.specs.Found.{Onward}
 use Rattle.reading.specs.AtLine.{AtLine, refuses, line-record, pass-read, form-in}
 use Rattle.reading.proofs.read_on.Tie as tie

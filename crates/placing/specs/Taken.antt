@@ -23,12 +23,12 @@ use Rattle.blocks.specs.Values.{counted-readable}
 use Rattle.limits.specs.Limits.{values-at-most}
 use Rattle.scanning.specs.Pass.{Scanned}
 use Rattle.scanning.specs.WholeLine.{valueFieldsIn, LineRead}
-use Rattle.reading.specs.declared.Phase.{Phase}
-use Rattle.reading.specs.declared.Phase.the-variants as phase
-use Rattle.reading.specs.declared.Reading.{Reading}
-use Rattle.reading.specs.declared.Read.{Read}
-use Rattle.reading.specs.Readings.{readingBy, readingIs, blockIs, Ready}
-use Rattle.reading.specs.Places.{Due, fieldsEvent}
+use Rattle.placing.specs.declared.Phase.{Phase}
+use Rattle.placing.specs.declared.Phase.the-variants as phase
+use Rattle.placing.specs.declared.Reading.{Reading}
+use Rattle.placing.specs.declared.Read.{Read}
+use Rattle.placing.specs.Readings.{readingBy, readingIs, blockIs, Ready}
+use Rattle.placing.specs.Places.{Due, fieldsEvent}
 
 abbrev pub timeTaken : Reading → List ℕ → Read
 timeTaken r values =

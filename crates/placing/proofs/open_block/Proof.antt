@@ -3,8 +3,8 @@ use mathlib.Core.Path.{refl}
 use borrow.Author.Needs.{needs}
 use Rattle.blocks.specs.Values.{counted-readable}
 use Rattle.blocks.specs.Meant.{nameIs}
-use Rattle.reading.proofs.open_block.Statement.{statement}
-use Rattle.reading.proofs.open_block.Tie as tie
+use Rattle.placing.proofs.open_block.Statement.{statement}
+use Rattle.placing.proofs.open_block.Tie as tie
 
 clear-requires : tie.Need-clear-requires
 clear-requires c κs = c .before .before .pre .1 .readable .long

@@ -2,15 +2,16 @@
 use super::Label;
 use blocks::Name;
 ghost use mathlib.Core.Path.{_≡_};
+ghost use mathlib.Core.List.{[]};
 ghost use Prim.Native.Nat.{_≤_};
 ghost use lib.ListN.{length};
 ghost use Rattle.meaning.specs.Fields.{nameIn};
 ghost use Rattle.fields.specs.Spans.{formOf};
 ghost use Rattle.blocks.specs.Meant.{nameIs};
-ghost use Rattle.reading.specs.Labels.{Labels};
+ghost use Rattle.placing.specs.Labels.{Labels};
 
 pub fn no_name() -> Name
-    ensures { λ r. ⌜ r .letters ≤ 6 ⌝ }
+    ensures { λ r. ⌜ (nameIs r ≡ []) × (r .letters ≤ 6) ⌝ }
 {
     Name {
         bytes: [0u8; 6],

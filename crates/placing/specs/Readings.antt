@@ -14,9 +14,9 @@ use Rattle.fields.specs.Spans.{formOf}
 use Rattle.blocks.specs.declared.Name.{Name}
 use Rattle.blocks.specs.Meant.{timeIs, nameIs}
 use Rattle.blocks.specs.Cards.{blockOf, Counted, Readable}
-use Rattle.reading.specs.declared.Phase.{Phase}
-use Rattle.reading.specs.declared.Phase.the-variants as phase
-use Rattle.reading.specs.declared.Reading.{Reading}
+use Rattle.placing.specs.declared.Phase.{Phase}
+use Rattle.placing.specs.declared.Phase.the-variants as phase
+use Rattle.placing.specs.declared.Reading.{Reading}
 
 abbrev pub readingBy : Phase → blocks.Time → Form → Block → run.Reading
 readingBy phase.BeforeTime τ form b = BeforeTime form

@@ -2,9 +2,9 @@
 use native.Mathlib.Omega.{arith}
 use borrow.Author.Needs.{needs}
 use Rattle.scanning.specs.Scans.{scannedOf}
-use Rattle.reading.specs.Taken.{outside-taken, time-few, time-line, item-line}
-use Rattle.reading.proofs.taking.take_line.Statement.{statement}
-use Rattle.reading.proofs.taking.take_line.Tie as tie
+use Rattle.placing.specs.Taken.{outside-taken, time-few, time-line, item-line}
+use Rattle.placing.proofs.taking.take_line.Statement.{statement}
+use Rattle.placing.proofs.taking.take_line.Tie as tie
 
 returns : tie.Need-returns
 returns c =

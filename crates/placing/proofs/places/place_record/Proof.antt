@@ -5,9 +5,9 @@ use borrow.Author.Needs.{needs}
 use Rattle.meaning.specs.Blocks.{repeated}
 use Rattle.blocks.specs.Meant.{timeIs, nameIs}
 use Rattle.blocks.specs.Cards.{blockOf}
-use Rattle.reading.specs.Places.{id-placed, it-placed, kk-placed, zz-placed, km-placed, control-placed, item-placed}
-use Rattle.reading.proofs.places.place_record.Statement.{statement}
-use Rattle.reading.proofs.places.place_record.Tie as tie
+use Rattle.placing.specs.Places.{id-placed, it-placed, kk-placed, zz-placed, km-placed, control-placed, item-placed}
+use Rattle.placing.proofs.places.place_record.Statement.{statement}
+use Rattle.placing.proofs.places.place_record.Tie as tie
 
 in-block-requires : tie.Need-in-block-requires
 in-block-requires c κs = (rw (c .before .k .given .1) at (c .before .before .before .before .pre .0), c .before .before .before .before .pre .1)

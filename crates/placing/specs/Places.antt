@@ -13,11 +13,11 @@ use Rattle.meaning.specs.Run.{BeforeTime, BeforeBlocks, InBlock, Event, Refuse,
 use Rattle.fields.specs.Spans.{formOf}
 use Rattle.records.specs.Rows.{items}
 use Rattle.blocks.specs.Cards.{blockOf}
-use Rattle.reading.specs.declared.Phase.{Phase}
-use Rattle.reading.specs.declared.Phase.the-variants as phase
-use Rattle.reading.specs.declared.Placed.{Placed}
-use Rattle.reading.specs.declared.Placed.the-variants.{Misplaced, Passed, Named, Last, Fields}
-use Rattle.reading.specs.Readings.{readingBy, formIn, timeIn, inForm, openedIn}
+use Rattle.placing.specs.declared.Phase.{Phase}
+use Rattle.placing.specs.declared.Phase.the-variants as phase
+use Rattle.placing.specs.declared.Placed.{Placed}
+use Rattle.placing.specs.declared.Placed.the-variants.{Misplaced, Passed, Named, Last, Fields}
+use Rattle.placing.specs.Readings.{readingBy, formIn, timeIn, inForm, openedIn}
 
 abbrev pub beforeTime : Phase → Placed → Placed
 beforeTime phase.BeforeTime then = then
@@ -48,13 +48,17 @@ fieldsEvent item (InBlock τ form b) fs = unless (itemRefusal τ b item fs) (Go 
 abbrev pub nameEvent : run.Reading → List ℕ → Event
 nameEvent r name = unless (nameRefusal name) (Open (openedIn r name))
 
--- what a record does, on every line that holds it
+-- what a line of such a record does
+abbrev pub placedEvent : Placed → run.Reading → List ℕ → Event
+placedEvent Misplaced r l = Refuse 5
+placedEvent (Passed free) r l = Go (inForm (formOf free) r)
+placedEvent Named r l = nameEvent r (nameIn (formIn r) l)
+placedEvent Last r l = End (timeIn r)
+placedEvent (Fields item) r l = fieldsEvent item r (fieldsOf (formIn r) l)
+
+-- and that it is what the record does, on every line that holds it
 abbrev pub PlacedIs : Placed → run.Reading → records.Record → Type 0
-PlacedIs Misplaced r k = (l : List ℕ) → readRecord r l k ≡ Refuse 5
-PlacedIs (Passed free) r k = (l : List ℕ) → readRecord r l k ≡ Go (inForm (formOf free) r)
-PlacedIs Named r k = (l : List ℕ) → readRecord r l k ≡ nameEvent r (nameIn (formIn r) l)
-PlacedIs Last r k = (l : List ℕ) → readRecord r l k ≡ End (timeIn r)
-PlacedIs (Fields item) r k = (l : List ℕ) → readRecord r l k ≡ fieldsEvent item r (fieldsOf (formIn r) l)
+PlacedIs s r k = (l : List ℕ) → readRecord r l k ≡ placedEvent s r l
 
 -- where fields are read: the time control's before IT, a record's in a block that does not repeat it
 abbrev pub Due : Phase → Item → List ℕ → Type 0

@@ -5,10 +5,10 @@ use native.Mathlib.Omega.{arith}
 use Rattle.meaning.specs.Records.{badName}
 use Rattle.fields.specs.Spans.{formOf}
 use Rattle.fields.specs.NameLaws.{NameAt, name-found}
-use Rattle.reading.specs.Labels.{name-short}
+use Rattle.placing.specs.Labels.{name-short}
 use borrow.Author.Needs.{needs}
-use Rattle.reading.proofs.names.read_name.Statement.{statement}
-use Rattle.reading.proofs.names.read_name.Tie as tie
+use Rattle.placing.proofs.names.read_name.Statement.{statement}
+use Rattle.placing.proofs.names.read_name.Tie as tie
 
 found : (c : tie.After-name-span) → NameAt (formOf (c .before .before .args .free)) (c .before .before .args .l .now) (c .name-span .result)
 found c = name-found (formOf (c .before .before .args .free)) (c .before .before .args .l .now) (c .before .before .pre) (c .name-span .result) (c .name-span .ensures)
@@ -25,7 +25,7 @@ part-f-end c = let n = found c in omega arith
 returns : tie.Need-returns
 returns c =
     let n = found (c .before .before .before .before) in
-    record { bad = sym (c .before .if1 .taken) ∙ c .before .before .bad-name .ensures ∙ ap badName (n .name); same = λ z. absurd (true≢false z); short = c .no-name .ensures }
+    record { bad = sym (c .before .if1 .taken) ∙ c .before .before .bad-name .ensures ∙ ap badName (n .name); same = λ z. absurd (true≢false z); short = c .no-name .ensures .1 }
 
 copy-name-requires : tie.Need-copy-name-requires
 copy-name-requires c κs =

@@ -7,8 +7,8 @@ use native.Mathlib.Omega.{arith}
 use lib.ListN.{length, take}
 use lib.Seq.{take-all, take-at}
 use borrow.Author.Needs.{needs}
-use Rattle.reading.proofs.names.copy_name.Statement.{statement}
-use Rattle.reading.proofs.names.copy_name.Tie as tie
+use Rattle.placing.proofs.names.copy_name.Statement.{statement}
+use Rattle.placing.proofs.names.copy_name.Tie as tie
 
 front : (n : ℕ) (f rest : List ℕ) → n ≡ length f → take n (take (length f) f ++ rest) ≡ f
 front n f rest e = rw (take-all (length f) f (le-refl (length f)), take-at f rest n (sym e))

@@ -8,9 +8,9 @@ ghost use mathlib.Core.Path.{_≡_};
 ghost use Prim.Native.Nat.{_≤_};
 ghost use lib.ListN.{length, getD};
 ghost use Rattle.scanning.specs.Scans.{scannedOf};
-ghost use Rattle.reading.specs.Readings.{Ready};
-ghost use Rattle.reading.specs.Places.{Due};
-ghost use Rattle.reading.specs.Taken.{timeTaken, Passed, LineTaken};
+ghost use Rattle.placing.specs.Readings.{Ready};
+ghost use Rattle.placing.specs.Places.{Due};
+ghost use Rattle.placing.specs.Taken.{timeTaken, Passed, LineTaken};
 
 // IT taken: minutes and ordinates.
 fn take_time(r: Reading, values: &[u64]) -> Read

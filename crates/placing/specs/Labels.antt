@@ -9,7 +9,7 @@ use lib.ListN.{length, take}
 use Rattle.sequences.specs.Choices.{both-fail}
 use Rattle.meaning.specs.Words.{_<?_, empty}
 use Rattle.meaning.specs.Records.{anyBlank, badName}
-use Rattle.reading.specs.declared.Label.{Label}
+use Rattle.placing.specs.declared.Label.{Label}
 
 pub record Labels (name : List ℕ) (r : Label) : Type 0 where
   pub bad : r .bad ≡ badName name

@@ -3,8 +3,8 @@ use Prim.Native.Nat.{zero-le}
 use mathlib.Core.Path.{refl}
 use borrow.Author.Needs.{needs}
 use Rattle.blocks.specs.Values.{counted-readable}
-use Rattle.reading.proofs.first_reading.Statement.{statement}
-use Rattle.reading.proofs.first_reading.Tie as tie
+use Rattle.placing.proofs.first_reading.Statement.{statement}
+use Rattle.placing.proofs.first_reading.Tie as tie
 
 returns : tie.Need-returns
 returns c =
@@ -12,7 +12,7 @@ returns c =
     record {
       is = refl;
       phase = refl;
-      ready = record { few-ordinates = zero-le; short-name = c .no-name .ensures; readable = counted-readable kept; counted = λ e. kept };
+      ready = record { few-ordinates = zero-le; short-name = c .no-name .ensures .1; readable = counted-readable kept; counted = λ e. kept };
     }
 
 pub first-reading-spec : {M : Type 1} → statement M

@@ -1,8 +1,8 @@
 -- By the phase, and in a block by the test.
 use mathlib.Core.Path.{sym, _∙_}
 use borrow.Author.Needs.{needs}
-use Rattle.reading.proofs.places.in_block.Statement.{statement}
-use Rattle.reading.proofs.places.in_block.Tie as tie
+use Rattle.placing.proofs.places.in_block.Statement.{statement}
+use Rattle.placing.proofs.places.in_block.Tie as tie
 
 returns : tie.Need-returns
 returns c = λ name. rw (c .before .before .enum-told3 .given .1, sym (c .before .is-repeated .ensures name) ∙ c .if1 .taken)

@@ -10,8 +10,8 @@ ghost use Rattle.meaning.specs.Blocks.{repeated};
 ghost use Rattle.identifiers.specs.Heads.{recordIs, OfTable};
 ghost use Rattle.records.specs.Rows.{items};
 ghost use Rattle.blocks.specs.Cards.{blockOf, Readable};
-ghost use Rattle.reading.specs.Readings.{readingIs};
-ghost use Rattle.reading.specs.Places.{beforeTime, afterTime, inBlock, PlacedIs, MayRead};
+ghost use Rattle.placing.specs.Readings.{readingIs};
+ghost use Rattle.placing.specs.Places.{beforeTime, afterTime, inBlock, PlacedIs, MayRead};
 
 // A record that stands only before IT, and IT itself.
 fn before_time(phase: Phase, then: Placed) -> Placed
