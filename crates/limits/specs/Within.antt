@@ -19,7 +19,7 @@ use Rattle.meaning.specs.Fields.{Form, fieldsOf, nameIn}
 use Rattle.meaning.specs.Records.{Item, Row, Once, Listed, table, rowOf, rulesIn, listsIn, Record, ID, IT, KK, KM, ZZ, Control, Of, Rule, ruleAt, timeRules, rulesOf, filledUp, valueFields, anyFaulty, anyOutside, valuesFrom, badName}
 use Rattle.meaning.specs.Blocks.{Time, Card, Absent, Given, isGiven, valuesOf, Block, cardOf, opened, repeated, tooMany}
 use Rattle.meaning.specs.Run.{Head, Faulty, Skipped, Holds, headOf, Reading, BeforeTime, BeforeBlocks, InBlock, Event, Refuse, Go, Open, End, unless, timeRefusal, timeOf, nameRefusal, itemValues, itemRefusal, withItem, readRecord, readBy, readLine}
-use Rattle.records.specs.Blanks.{faulty-split}
+use Rattle.records.specs.Blanks.{filled-long}
 use Rattle.limits.specs.Limits.{highest, lowest, values-at-most, values-at-least}
 use Rattle.events.specs.NextEvent.{Found, FoundHas, found-has, nextEvent}
 
@@ -51,7 +51,7 @@ pub record Within (b : Block) : Type 0 where
 -- what an item's line that is not refused has shown
 pub record Sound (τ : Time) (b : Block) (item : Item) (fs : List (List ℕ)) : Type 0 where
   pub once : repeated item b ≡ false
-  pub formed : anyFaulty (rulesOf item) 0 fs ≡ false
+  pub formed : anyFaulty (rulesOf item) 0 (valueFields item fs) ≡ false
   pub inside : anyOutside (rulesOf item) 0 (valueFields item fs) ≡ false
   pub few : tooMany τ item b (itemValues item fs) ≡ false
 
@@ -72,9 +72,6 @@ bound-append m (x ∷ xs) ys f g (suc j) = bound-append m xs ys (λ (i : ℕ). f
 module _ (rules : List Rule) (fs : List (List ℕ)) where
   abbrev named : List ℕ
   named = valuesFrom rules 0 (filledUp rules fs)
-
-  filled-long : length rules ≤ length (filledUp rules fs)
-  filled-long = rw (length-append fs (replicate (length rules - length fs) []), length-replicate {A = List ℕ} (length rules - length fs) []) (omega arith)
 
 absent : (c : Card) → isGiven c ≡ false → valuesOf c ≡ []
 absent Absent e = refl
@@ -102,20 +99,19 @@ ten-rules r j = go 10 j
 
 pub record SoundCard (row : Row) (c : Card) (fs : List (List ℕ)) : Type 0 where
   pub once : (not (listsIn row) && isGiven c) ≡ false
-  pub formed : anyFaulty (rulesIn row) 0 fs ≡ false
+  pub formed : anyFaulty (rulesIn row) 0 (if listsIn row then fs else filledUp (rulesIn row) fs) ≡ false
   pub inside : anyOutside (rulesIn row) 0 (if listsIn row then fs else filledUp (rulesIn row) fs) ≡ false
 
 within-card : (row : Row) (c : Card) (fs : List (List ℕ)) → SoundCard row c fs → CardWithin row c
     → CardWithin row (Given (valuesOf c ++ valuesFrom (rulesIn row) 0 (if listsIn row then fs else filledUp (rulesIn row) fs)))
 unfolding if_then_else_
 within-card (Once i rules) c fs s w =
-    let m = faulty-split rules 0 fs (length rules - length fs) ∙ s .formed in
     let long = filled-long rules fs in
     let at : (j : ℕ) → 0 + j ≡ j = λ (j : ℕ). omega arith in
     rw (absent c (s .once))
     (record {
       high = λ (j : ℕ). let h = values-at-most rules 0 (filledUp rules fs) (s .inside) j in rw (at j) at h;
-      low = λ z (j : ℕ) (k : j < length rules). let h = values-at-least rules 0 (filledUp rules fs) m (s .inside) j (omega arith) in rw (at j) at h;
+      low = λ z (j : ℕ) (k : j < length rules). let h = values-at-least rules 0 (filledUp rules fs) (s .formed) (s .inside) j (omega arith) in rw (at j) at h;
     })
 within-card (Listed i most each) c fs s w =
     let v : (j : ℕ) → getD (valuesFrom (replicate 10 each) 0 fs) j 0 ≤ highest each =
@@ -167,7 +163,7 @@ time-read fs e =
     let f = neither-met _ _ e in
     let gs = filledUp timeRules fs in
     let long = filled-long timeRules fs in
-    let m = faulty-split timeRules 0 fs (4 - length fs) ∙ not-met _ 5 (f .0) in
+    let m = not-met _ 5 (f .0) in
     let i = not-met _ 6 (f .1) in
     record {
       some-minutes = values-at-least timeRules 0 gs m i 0 (omega arith);

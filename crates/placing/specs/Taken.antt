@@ -12,7 +12,7 @@ use lib.ListN.{take, getD}
 use lib.Seq.{getD-take}
 use Rattle.meaning.specs.Words.{if_then_else_, met}
 use Rattle.meaning.specs.Fields.{Form}
-use Rattle.meaning.specs.Records.{Row, Once, Listed, Item, rowOf, listsIn, filledUp, rulesIn, rulesOf, timeRules, valueFields, anyOutside}
+use Rattle.meaning.specs.Records.{Row, Once, Listed, Item, rowOf, listsIn, filledUp, rulesIn, rulesOf, timeRules, valueFields, anyFaulty, anyOutside}
 use Rattle.meaning.specs.Blocks.{Time, Block, repeated, tooMany}
 use Rattle.meaning.specs.Run.{BeforeTime, BeforeBlocks, InBlock, Refuse, Go, unless, timeRefusal, timeOf, itemValues, itemRefusal, withItem}
 use Rattle.fields.specs.Spans.{formOf}
@@ -22,7 +22,7 @@ use Rattle.blocks.specs.Cards.{blockOf, Takes}
 use Rattle.blocks.specs.Values.{counted-readable}
 use Rattle.limits.specs.Limits.{values-at-most}
 use Rattle.scanning.specs.Pass.{Scanned}
-use Rattle.scanning.specs.WholeLine.{valueFieldsIn, LineRead}
+use Rattle.scanning.specs.WholeLine.{fields-in, LineRead}
 use Rattle.placing.specs.declared.Phase.{Phase}
 use Rattle.placing.specs.declared.Phase.the-variants as phase
 use Rattle.placing.specs.declared.Reading.{Reading}
@@ -68,14 +68,6 @@ module _ (fs : List (List ℕ)) (s : Scanned) (read : LineRead (fieldRow items) 
       rw (← read .values, getD-take 4 (s .values) 3 0 (omega arith)) at v
 
 -- RECORDS OF A BLOCK
-fields-in : (item : Item) (fs : List (List ℕ)) → valueFields item fs ≡ valueFieldsIn (rowOf item) fs
-unfolding valueFields if_then_else_
-fields-in item fs = by (rowOf item)
-  where
-    by : (row : Row) → (if listsIn row then fs else filledUp (rulesIn row) fs) ≡ valueFieldsIn row fs
-    by (Once i rules) = refl
-    by (Listed i m each) = refl
-
 module _ (item : Item) (fs : List (List ℕ)) (s : Scanned) (read : LineRead (rowOf item) fs s) (b : Block) (once : repeated item b ≡ false) where
   flag : anyOutside (rulesOf item) 0 (valueFields item fs) ≡ s .outside
   flag = rw (fields-in item fs) (sym (read .flag))
@@ -83,13 +75,16 @@ module _ (item : Item) (fs : List (List ℕ)) (s : Scanned) (read : LineRead (ro
   values : take (spanIn (rowOf item) (s .count)) (s .values) ≡ itemValues item fs
   values = rw (fields-in item fs) (read .values)
 
+  formed : anyFaulty (rulesOf item) 0 (valueFields item fs) ≡ false
+  formed = rw (fields-in item fs) (read .formed)
+
   item-outside : (τ : Time) → s .outside ≡ true → itemRefusal τ b item fs ≡ 7
   unfolding itemRefusal
-  item-outside τ e = rw (once, read .formed, flag ∙ e)
+  item-outside τ e = rw (once, formed, flag ∙ e)
 
   item-number : (τ : Time) → s .outside ≡ false → itemRefusal τ b item fs ≡ met (tooMany τ item b (itemValues item fs)) 8
   unfolding itemRefusal
-  item-number τ e = rw (once, read .formed, flag ∙ e)
+  item-number τ e = rw (once, formed, flag ∙ e)
 
 -- the refusal and the block after it are the definition's
 item-event : (item : Item) (fs : List (List ℕ)) (s : Scanned) → LineRead (rowOf item) fs s → (name w : List ℕ) → repeated item (blockOf name w) ≡ false → (τ : Time) (form : Form)

@@ -13,7 +13,7 @@ use Rattle.sequences.specs.Parts.{part}
 use Rattle.meaning.specs.Lines.{linesOf}
 use Rattle.meaning.specs.Fields.{Form, fieldsIn, fieldsOf}
 use Rattle.meaning.specs.Records as records
-use Rattle.meaning.specs.Records.{Item, Row, rulesIn, rulesOf, timeRules, badName, ruleAt, faultyField, anyFaulty}
+use Rattle.meaning.specs.Records.{Item, Row, rulesIn, rulesOf, timeRules, filledUp, valueFields, badName, ruleAt, faultyField, anyField, anyFaulty}
 use Rattle.meaning.specs.Blocks.{Time}
 use Rattle.meaning.specs.Run as run
 use Rattle.meaning.specs.Run.{Event, Refuse, Go, Open, End, unless, timeRefusal, itemRefusal, nameRefusal, readRecord, readBy, readLine}
@@ -26,12 +26,12 @@ use Rattle.identifiers.specs.declared.Record.{Record}
 use Rattle.identifiers.specs.Heads.{recordIs, headIs, plainHead}
 use Rattle.identifiers.specs.Passed.{passed-head, foreign-head}
 use Rattle.records.specs.Rows.{fieldRow, rulesBy, block-row, few-rules, spanIn}
-use Rattle.records.specs.Blanks.{faulty-split, blank-listed}
+use Rattle.records.specs.Blanks.{blank-listed}
 use Rattle.blocks.specs.Meant.{timeIs, nameIs}
 use Rattle.blocks.specs.Cards.{blockOf}
 use Rattle.scanning.specs.Pass.{Scanned, noted, scanFrom}
 use Rattle.scanning.specs.FieldsLeft.{leftFields, left-first}
-use Rattle.scanning.specs.WholeLine.{Fresh, LineRead, line-read}
+use Rattle.scanning.specs.WholeLine.{Fresh, LineRead, valueFieldsIn, fields-in, line-faults, line-read}
 use Rattle.placing.specs.declared.Phase.{Phase}
 use Rattle.placing.specs.declared.Phase.the-variants as phase
 use Rattle.placing.specs.declared.Reading.{Reading}
@@ -97,33 +97,31 @@ module _ (item : Item) (form : Form) (l : List ℕ) where
   abbrev left : List (List ℕ)
   left = leftFields form (spanIn (fieldRow item) 0) 0 (firstPlace form l) l
 
-  same-faults : anyFaulty (rulesBy item) 0 left ≡ anyFaulty (rulesBy item) 0 (fieldsOf form l)
-  same-faults =
-      let h = left-first form (spanIn (fieldRow item) 0) l in
-      ap (anyFaulty (rulesBy item) 0) (h .fields) ∙ faulty-split (rulesBy item) 0 (fieldsOf form l) (h .blanks)
-
   pub pass-read : (s : Scanned) → Fresh s → anyFaulty (rulesBy item) 0 left ≡ false → LineRead (fieldRow item) (fieldsOf form l) (scanFrom (rulesBy item) 0 left s)
   unfolding fieldsOf
   pass-read s fresh sound =
       let h = left-first form (spanIn (fieldRow item) 0) l in
       rw (h .fields) (line-read (fieldRow item) (few-rules item) (blank-listed item) (fieldsIn form l) (h .blanks) s fresh (h .enough) (rw (h .fields) at sound))
 
-  pub pass-fault : anyFaulty (rulesBy item) 0 left ≡ true → anyFaulty (rulesBy item) 0 (fieldsOf form l) ≡ true
-  pass-fault e = sym same-faults ∙ e
+  pub pass-fault : anyFaulty (rulesBy item) 0 left ≡ true → anyFaulty (rulesBy item) 0 (valueFieldsIn (fieldRow item) (fieldsOf form l)) ≡ true
+  pass-fault e =
+      let h = left-first form (spanIn (fieldRow item) 0) l in
+      sym (line-faults (fieldRow item) (blank-listed item) (fieldsOf form l) (h .blanks) (h .enough)) ∙ sym (ap (anyFaulty (rulesBy item) 0) (h .fields)) ∙ e
 
 -- refusal 6
-fault-by : (p : Phase) (item : Item) (τ : Time) (form : Form) (name w : List ℕ) (fs : List (List ℕ)) → Due p item w → anyFaulty (rulesBy item) 0 fs ≡ true
+fault-by : (p : Phase) (item : Item) (τ : Time) (form : Form) (name w : List ℕ) (fs : List (List ℕ)) → Due p item w → anyFaulty (rulesBy item) 0 (valueFieldsIn (fieldRow item) fs) ≡ true
     → fieldsEvent item (readingBy p τ form (blockOf name w)) fs ≡ Refuse 6
 unfolding timeRefusal itemRefusal
 fault-by phase.BeforeTime item τ form name w fs due e =
-    let e′ : anyFaulty timeRules 0 fs ≡ true = rw due at e in
+    let e′ : anyFaulty timeRules 0 (filledUp timeRules fs) ≡ true = rw due at e in
     rw e′
 fault-by phase.BeforeBlocks item τ form name w fs due e = absurd due
 fault-by phase.InBlock item τ form name w fs due e =
-    let e′ : anyFaulty (rulesOf item) 0 fs ≡ true = ap (λ (row : Row). anyFaulty (rulesIn row) 0 fs) (sym (block-row item (due .0))) ∙ e in
+    let e′ : anyFaulty (rulesOf item) 0 (valueFields item fs) ≡ true =
+    ap (anyFaulty (rulesOf item) 0) (fields-in item fs) ∙ ap (λ (row : Row). anyFaulty (rulesIn row) 0 (valueFieldsIn row fs)) (sym (block-row item (due .0))) ∙ e in
     rw (due .1 name, e′)
 
-pub fault-event : (item : Item) (r : Reading) (w : List ℕ) (fs : List (List ℕ)) → Due (r .phase) item w → anyFaulty (rulesBy item) 0 fs ≡ true
+pub fault-event : (item : Item) (r : Reading) (w : List ℕ) (fs : List (List ℕ)) → Due (r .phase) item w → anyFaulty (rulesBy item) 0 (valueFieldsIn (fieldRow item) fs) ≡ true
     → fieldsEvent item (readingIs r w) fs ≡ Refuse 6
 fault-event item r w fs due e = fault-by (r .phase) item (timeIs (r .time)) (formOf (r .free)) (nameIs (r .name)) w fs due e
 
@@ -170,11 +168,11 @@ unless-none n e z = rw z
 -- ONE FIELD NOTED
 module _ (rules : List records.Rule) (i : ℕ) (f : List ℕ) (later all : List (List ℕ)) where
   pub fault-here : faultyField (ruleAt rules i) f ≡ true → anyFaulty rules i (f ∷ later) ≡ anyFaulty rules 0 all → anyFaulty rules 0 all ≡ true
-  unfolding anyFaulty
+  unfolding anyField
   fault-here e h = sym h ∙ rw e
 
   pub fault-later : faultyField (ruleAt rules i) f ≡ false → anyFaulty rules i (f ∷ later) ≡ anyFaulty rules 0 all → anyFaulty rules (i + 1) later ≡ anyFaulty rules 0 all
-  unfolding anyFaulty
+  unfolding anyField
   fault-later e h = rw e at h
 
   pub scan-later : (s s′ t : Scanned) → s′ ≡ noted rules i f s → scanFrom rules i (f ∷ later) s ≡ t → scanFrom rules (i + 1) later s′ ≡ t

@@ -3,11 +3,13 @@
 mod words;
 
 ghost use mathlib.Core.Path.{_≡_};
+ghost use mathlib.Core.Bool.{not};
 ghost use Prim.Native.Nat.{_≤_, _<_};
+ghost use Rattle.meaning.specs.Words.{_=?_};
 ghost use Rattle.meaning.specs.Records.{rowOf, ruleAt, isMalformed, isOutside, unitsOf, faultyField, outsideField, valueOf};
 ghost use Rattle.numbers.specs.Reading.{valueIs};
 ghost use Rattle.records.specs.Rows.{items, fieldRow, rulesBy, start, wayIn, spanIn, spanBy, mostBy};
-ghost use Rattle.records.specs.Rules.{ruleBy, ownRule, FieldIs, FewPlaces};
+ghost use Rattle.records.specs.Rules.{ruleBy, ownRule, FieldIs, WordIs, FewPlaces};
 ghost use Rattle.records.specs.Keys.{keyIn, placeOf};
 use numbers::Value;
 
@@ -114,12 +116,13 @@ pub fn place_of(key: u64) -> usize
     i
 }
 
-// What a field may hold: nothing; anything, since it is not read; a number with so many places, or a word of so many characters, from a lowest to a highest value.
+// What a field may hold: nothing; anything, since it is not read; a number with so many places, from a lowest to a highest value; or a word of so many characters,
+// likewise, behind the number by which another one is refused.
 pub enum Rule {
     Unnamed,
     NotRead,
     Limited(u64, u64, u64),
-    Worded(u64, u64, u64),
+    Worded(u64, u64, u64, u64),
 }
 
 // The rule of field `k` of a record, from 0, or of the values that it lists. A match and no table, since it is asked for every field.
@@ -193,6 +196,31 @@ fn limit_value(v: Value, low: u64, high: u64) -> Field
     }
 }
 
+// Another word than may stand in a field, refused by 6, or else by 7.
+fn other_word(refusal: u64) -> Field
+    ensures { λ r. ⌜ FieldIs r (refusal =? 6) (not (refusal =? 6)) 0 ⌝ }
+{
+    if refusal == 6 {
+        return Field::Faulty;
+    }
+    Field::Value(0, true)
+}
+
+// A word, by the limits of its field.
+fn limit_word(v: Value, refusal: u64, low: u64, high: u64) -> Field
+    ensures { λ r. ⌜ WordIs r refusal low high (valueIs v) ⌝ }
+{
+    match limit_value(v, low, high) {
+        Field::Faulty => other_word(refusal),
+        Field::Value(u, outside) => {
+            if outside {
+                return other_word(refusal);
+            }
+            Field::Value(u, false)
+        }
+    }
+}
+
 // A field, by its rule.
 fn read_field(r: Rule, f: &[u8]) -> Field
     requires { ⌜ FewPlaces (ruleBy r) ⌝ }
@@ -207,7 +235,9 @@ fn read_field(r: Rule, f: &[u8]) -> Field
         }
         Rule::NotRead => Field::Value(0, false),
         Rule::Limited(places, low, high) => limit_value(numbers::read_value(f, places), low, high),
-        Rule::Worded(most, low, high) => limit_value(words::read_word(f, most), low, high),
+        Rule::Worded(refusal, most, low, high) => {
+            limit_word(words::read_word(f, most), refusal, low, high)
+        }
     }
 }
 

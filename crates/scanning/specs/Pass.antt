@@ -14,7 +14,7 @@ use lib.ListN.{length, take, set, length-set}
 use lib.Seq.{take-suc-set, take-set-le}
 use Rattle.meaning.specs.Words.{_<?_, if_then_else_, empty}
 use Rattle.meaning.specs.Fields.{trimEnd}
-use Rattle.meaning.specs.Records.{Rule, ruleAt, outsideField, anyOutside, valueOf, valuesFrom}
+use Rattle.meaning.specs.Records.{Rule, ruleAt, outsideField, anyField, anyOutside, valueOf, valuesFrom}
 
 pub record Scanned : Type 0 where
   pub values : List ℕ
@@ -38,7 +38,7 @@ scanFrom rules k [] s = s
 scanFrom rules k (f ∷ fs) s = scanFrom rules (k + 1) fs (noted rules k f s)
 
 pub scan-outside : (rules : List Rule) (k : ℕ) (fs : List (List ℕ)) (s : Scanned) → scanFrom rules k fs s .outside ≡ (s .outside || anyOutside rules k fs)
-unfolding scanFrom anyOutside
+unfolding scanFrom anyField
 scan-outside rules k [] s = sym (or-false (s .outside))
 scan-outside rules k (f ∷ fs) s =
     scan-outside rules (k + 1) fs (noted rules k f s) ∙ or-assoc (s .outside) (outsideField (ruleAt rules k) f) (anyOutside rules (k + 1) fs)

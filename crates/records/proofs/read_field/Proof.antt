@@ -34,7 +34,7 @@ returns-4 : tie.Need-returns-4
 returns-4 c = rw (c .before .before .before .r .given .1, ← c .before .read-value .ensures) (c .limit-value .ensures)
 
 returns-5 : tie.Need-returns-5
-returns-5 c = rw (c .before .before .before .r2 .given .1, ← c .before .read-word .ensures) (c .limit-value2 .ensures)
+returns-5 c = rw (c .before .before .before .r2 .given .1, ← c .before .read-word .ensures) (c .limit-word .ensures)
 
 pub read-field-spec : {M : Type 1} → statement M
 read-field-spec =

@@ -9,7 +9,7 @@ use lib.ListN.{length, drop}
 use Rattle.sequences.specs.Parts.{part, length-part}
 use Rattle.meaning.specs.Lines.{linesOf}
 use Rattle.meaning.specs.Fields.{Form, fieldsOf, nameIn}
-use Rattle.meaning.specs.Records.{Item, anyFaulty}
+use Rattle.meaning.specs.Records.{Item, anyField, anyFaulty}
 use Rattle.meaning.specs.Run as run
 use Rattle.meaning.specs.Run.{Refuse, Go, unless, readLine, readRecord}
 use Rattle.lines.specs.First.{FairAt, fair-line}
@@ -235,7 +235,7 @@ none-left c =
 
 pub read : (c : None)
     → LineRead (fieldRow (item-at (ended c))) (fieldsOf (form-at (line-of (ended c))) (text (line-of (ended c)))) (scannedOf (c .before .before .loop .values) (c .before .before .loop .scan))
-unfolding anyFaulty scanFrom
+unfolding anyField scanFrom
 read c =
     let v = c .before .before .loop .inv .3 in
     let rules = rulesBy (item-at (ended c)) in
