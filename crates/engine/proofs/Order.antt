@@ -14,8 +14,8 @@ use Rattle.meaning.specs.Run as run
 use Rattle.network.specs.Network.{networkOf}
 use Rattle.network.specs.Order.{PairOff, said, Sound, Enough}
 use Rattle.network.specs.Point3.{OrderFree, order-does-not-matter}
-use Rattle.engine.specs.declared.Answer.the-variants.{Accepted}
-use Rattle.engine.specs.Answers.{outcomeIs, lentAs}
+use Rattle.answers.specs.declared.Answer.the-variants.{Accepted}
+use Rattle.answers.specs.Answers.{outcomeIs, lentAs}
 use Rattle.engine.proofs.run.Kinds as kinds
 use Rattle.engine.proofs.run.Reads as says
 

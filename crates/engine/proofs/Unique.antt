@@ -3,17 +3,9 @@ use mathlib.Core.Path.{_≡_, sym, ap, _∙_}
 use denote.Ref.{now}
 use Rattle.meaning.specs.Run.{Outcome}
 use Rattle.sequences.specs.Contracts.{Once}
-use Rattle.engine.specs.declared.Answer.{Answer}
-use Rattle.engine.specs.declared.Answer.the-variants.{Accepted, Refused}
-use Rattle.engine.specs.Answers.{answerIs}
+use Rattle.answers.specs.Answers.{answer-told}
 use Rattle.engine.proofs.run.Kinds as run
 use Rattle.engine.proofs.run.Reads as run-says
-
-answer-told : (x y : Answer) → answerIs x ≡ answerIs y → x ≡ y
-answer-told (Accepted n k) (Accepted m l) h = cc
-answer-told (Accepted n k) (Refused m l) h = cc
-answer-told (Refused n k) (Accepted m l) h = cc
-answer-told (Refused n k) (Refused m l) h = cc
 
 -- deck, named, work, ordinates, records
 pub run-once : Once run.ps run.r run-says.Post

@@ -16,9 +16,9 @@ use Rattle.meaning.specs.Blocks.{Time}
 use Rattle.meaning.specs.Results.{Result, recordSize}
 use Rattle.meaning.specs.Run.{Worked, Stopped, Done, worked, Lent, Answer, Accepted, Refused, Outcome, refused, noRoom, settled, outcome, workSize, deckSize}
 use Rattle.meaning.specs.Listing.{refusedLine, listingBy, listing}
-use Rattle.engine.specs.declared.Answer as engine
-use Rattle.engine.specs.declared.Answer.the-variants as answer
-use Rattle.engine.specs.Answers.{outcomeIs}
+use Rattle.answers.specs.declared.Answer as engine
+use Rattle.answers.specs.declared.Answer.the-variants as answer
+use Rattle.answers.specs.Answers.{outcomeIs}
 use Rattle.listing.specs.Sizes.{mostBlocks, recordsSize}
 use Rattle.listing.specs.Written.{Written}
 use Rattle.listing.specs.Line.{listingOf}

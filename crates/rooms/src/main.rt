@@ -3,7 +3,7 @@
 ghost use mathlib.Core.Path.{_≡_};
 ghost use Prim.Native.Nat.{_+_, _-_, _*_, _<_, _≤_};
 ghost use lib.ListN.{length};
-use engine::Answer;
+use answers::Answer;
 use streams::Next;
 
 // The most that a case may ask for, and the bytes of its text.

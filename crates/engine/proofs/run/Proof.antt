@@ -7,9 +7,10 @@ use native.Mathlib.Omega.{arith}
 use lib.ListN.{length, replicate}
 use borrow.Author.Needs.{needs}
 use Rattle.meaning.specs.Run.{Lent, workSize, deckSize}
+use Rattle.answers.specs.Answers.{lentAs}
 use Rattle.walking.specs.Going.{WorkedBy}
 use Rattle.engine.specs.Outcomes.{little-work, long-deck, stopped}
-use Rattle.engine.specs.Answers.{lentAs, refused-as, short-as, accepted-as}
+use Rattle.engine.specs.Walked.{refused-as, short-as, accepted-as}
 use Rattle.engine.proofs.run.Statement.{statement}
 use Rattle.engine.proofs.run.Tie as tie
 

@@ -1,5 +1,4 @@
--- The answer of the run as the meaning of a run has it, with what was lent.
---     answerIs, outcomeIs, lentAs     the answer, what comes back, and the lengths of what was lent
+-- The outcome of a run, from the walk over the deck.
 --     refused-as, accepted-as         the outcome where the deck is refused and where it is accepted
 use Prim.Native.Nat.{ℕ, _-_, _*_, _≤_}
 use mathlib.Core.Path.{_≡_, _∙_}
@@ -10,26 +9,12 @@ use lib.ListN.{length, replicate}
 use Rattle.sequences.specs.Choices.{both-fail}
 use Rattle.meaning.specs.Results.{recordSize}
 use Rattle.meaning.specs.Words.{_<?_}
-use Rattle.meaning.specs.Run as run
 use Rattle.meaning.specs.Run.{Outcome, Lent, refused, accepted, noRoom, outcome, workSize, deckSize}
-use Rattle.engine.specs.declared.Answer.{Answer}
-use Rattle.engine.specs.declared.Answer.the-variants as answer
+use Rattle.answers.specs.declared.Answer.{Answer}
+use Rattle.answers.specs.declared.Answer.the-variants as answer
+use Rattle.answers.specs.Answers.{outcomeIs, lentAs, lacking}
 use Rattle.walking.specs.Going.{DoneIs}
 use Rattle.engine.specs.Outcomes.{short-lent, all-room}
-
-abbrev pub answerIs : Answer → run.Answer
-answerIs (answer.Accepted nq blocks) = run.Accepted nq blocks
-answerIs (answer.Refused number line) = run.Refused number line
-
-abbrev pub outcomeIs : Answer → (work ordinates records : List ℕ) → Outcome
-outcomeIs a work ordinates records = record { answer = answerIs a; work = work; ordinates = ordinates; records = records }
-
-abbrev pub lentAs : (work ordinates records : List ℕ) → Lent
-lentAs work ordinates records = record { work = length work; ordinates = length ordinates; records = length records }
-
--- what was lent is too short for so many ordinates and blocks, or the named block is above the count
-abbrev pub lacking : (nq blocks named ordinates records : ℕ) → Bool
-lacking nq blocks named ordinates records = (ordinates <? nq) || (records <? recordSize * blocks) || (blocks <? named)
 
 enough-room : (nq blocks named ordinates records : ℕ) → lacking nq blocks named ordinates records ≡ false → (nq ≤ ordinates) × (recordSize * blocks ≤ records) × (named ≤ blocks)
 enough-room nq blocks named ordinates records h =

@@ -4,8 +4,8 @@ use native.Mathlib.Omega.{arith}
 use borrow.Author.Tests.{lt-ltb, le-ltb}
 use borrow.Author.Needs.{needs}
 use Rattle.meaning.specs.Results.{recordSize}
-use Rattle.engine.proofs.lacks_room.Statement.{statement}
-use Rattle.engine.proofs.lacks_room.Tie as tie
+use Rattle.answers.proofs.lacks_room.Statement.{statement}
+use Rattle.answers.proofs.lacks_room.Tie as tie
 
 returns : tie.Need-returns
 returns c =

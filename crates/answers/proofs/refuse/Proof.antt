@@ -1,7 +1,7 @@
 -- Zeros in each of the three: the outcome is equal to the refusal's because each is, part by part.
 use borrow.Author.Needs.{needs}
-use Rattle.engine.proofs.refuse.Statement.{statement}
-use Rattle.engine.proofs.refuse.Tie as tie
+use Rattle.answers.proofs.refuse.Statement.{statement}
+use Rattle.answers.proofs.refuse.Tie as tie
 
 returns : tie.Need-returns
 returns c =

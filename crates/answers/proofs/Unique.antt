@@ -1,0 +1,20 @@
+-- Two outcomes that meet a contract of this crate, as its `ensures` line has it, are equal: the answer and every word and byte lent.
+use mathlib.Core.Path.{_≡_, sym, ap, _∙_}
+use denote.Ref.{now}
+use Rattle.meaning.specs.Run.{Outcome}
+use Rattle.sequences.specs.Contracts.{Once}
+use Rattle.answers.specs.Answers.{answer-told}
+use Rattle.answers.proofs.refuse.Kinds as refuse
+use Rattle.answers.proofs.refuse.Reads as refuse-says
+use Rattle.answers.proofs.lacks_room.Kinds as lacks-room
+use Rattle.answers.proofs.lacks_room.Reads as lacks-room-says
+
+-- number, line, words, flows, bytes
+pub one-refusal : Once refuse.ps refuse.r refuse-says.Post
+    (λ κs x y e f. (x ≡ y) × (now (e .1 .1 .0) ≡ now (f .1 .1 .0)) × (now (e .1 .1 .1 .0) ≡ now (f .1 .1 .1 .0)) × (now (e .1 .1 .1 .1 .0) ≡ now (f .1 .1 .1 .1 .0)))
+one-refusal κs a x y e f p q =
+    let same = p ∙ sym q in
+    (answer-told x y (ap (λ (o : Outcome). o .answer) same), ap (λ (o : Outcome). o .work) same, ap (λ (o : Outcome). o .ordinates) same, ap (λ (o : Outcome). o .records) same)
+
+pub one-lacking : Once lacks-room.ps lacks-room.r lacks-room-says.Post (λ κs x y e f. x ≡ y)
+one-lacking κs a x y e f p q = p ∙ sym q

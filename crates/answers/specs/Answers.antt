@@ -1,0 +1,36 @@
+-- The answer as the meaning of a run has it, with what was lent.
+--     answerIs, outcomeIs, lentAs     the answer, what comes back, and the lengths of what was lent
+--     answer-told                     an answer is told by what it means
+--     lacking                         whether there is too little of it
+use Prim.Native.Nat.{ℕ, _*_}
+use mathlib.Core.Path.{_≡_}
+use mathlib.Core.Bool.{Bool, _||_}
+use mathlib.Core.List.{List}
+use lib.ListN.{length}
+use Rattle.meaning.specs.Words.{_<?_}
+use Rattle.meaning.specs.Results.{recordSize}
+use Rattle.meaning.specs.Run as run
+use Rattle.meaning.specs.Run.{Outcome, Lent}
+use Rattle.answers.specs.declared.Answer.{Answer}
+use Rattle.answers.specs.declared.Answer.the-variants as answer
+
+abbrev pub answerIs : Answer → run.Answer
+answerIs (answer.Accepted nq blocks) = run.Accepted nq blocks
+answerIs (answer.Refused number line) = run.Refused number line
+
+-- an answer is told by what it means
+pub answer-told : (x y : Answer) → answerIs x ≡ answerIs y → x ≡ y
+answer-told (answer.Accepted n k) (answer.Accepted m l) h = cc
+answer-told (answer.Accepted n k) (answer.Refused m l) h = cc
+answer-told (answer.Refused n k) (answer.Accepted m l) h = cc
+answer-told (answer.Refused n k) (answer.Refused m l) h = cc
+
+abbrev pub outcomeIs : Answer → (work ordinates records : List ℕ) → Outcome
+outcomeIs a work ordinates records = record { answer = answerIs a; work = work; ordinates = ordinates; records = records }
+
+abbrev pub lentAs : (work ordinates records : List ℕ) → Lent
+lentAs work ordinates records = record { work = length work; ordinates = length ordinates; records = length records }
+
+-- what was lent is too short for so many ordinates and blocks, or the named block is above the count
+abbrev pub lacking : (nq blocks named ordinates records : ℕ) → Bool
+lacking nq blocks named ordinates records = (ordinates <? nq) || (records <? recordSize * blocks) || (blocks <? named)
