@@ -1,7 +1,7 @@
 // What a run answers: the answer itself, the refusal that leaves zeros in all that was lent, and whether there is room for the results.
 ghost use mathlib.Core.Path.{_≡_};
 ghost use Prim.Native.Nat.{_≤_};
-ghost use Rattle.meaning.specs.Run.{refused};
+ghost use Rattle.meaning.specs.Run.{refused, mostBlocks};
 ghost use Rattle.answers.specs.Answers.{outcomeIs, lentAs, lacking};
 
 // The answer to a deck: the ordinates of each hydrograph and the blocks, or the number and the line of the refusal.
@@ -28,7 +28,7 @@ pub fn refuse(
 
 // Whether what was lent is too short for the results, or no such block is there to be named.
 pub fn lacks_room(nq: usize, blocks: usize, named: usize, ordinates: usize, records: usize) -> bool
-    requires { ⌜ blocks ≤ 200 ⌝ }
+    requires { ⌜ blocks ≤ mostBlocks ⌝ }
     ensures { λ r. ⌜ r ≡ lacking nq blocks named ordinates records ⌝ }
 {
     if ordinates < nq {

@@ -8,7 +8,7 @@ use mathlib.Core.List.{List, [], _∷_, map}
 use native.Mathlib.Omega.{arith}
 use lib.ListN.{length, take, getD}
 use Rattle.meaning.specs.Words.{met}
-use Rattle.meaning.specs.Records.{table, Item, rowOf}
+use Rattle.meaning.specs.Records.{table, Item, rowOf, mostOrdinates}
 use Rattle.records.specs.Rows.{roomOf, wordsOf, mostIn}
 use Rattle.meaning.specs.Blocks.{Card, Absent, Given, Block, Time, tooMany, withValues}
 use Rattle.blocks.specs.Regions.{regionsOf}
@@ -36,7 +36,7 @@ abbrev pub blockOf : List ℕ → List ℕ → Block
 blockOf name w = record { name = name; cards = map cardIn (regions w) }
 
 pub record Counted (nq : ℕ) (w : List ℕ) : Type 0 where
-  pub few : nq ≤ 300
+  pub few : nq ≤ mostOrdinates
   pub long : wordsOf table ≤ length w
   pub heads : (p : ℕ) → headIn (regionOf p w) ≤ suc (mostIn (rowOf p) nq)
 

@@ -10,7 +10,7 @@ use lib.Seq.{getD-set-same, getD-set-other}
 use Rattle.sequences.specs.Choices.{below-or-not}
 use mathlib.Core.Logic.{⊎-elim}
 use Rattle.meaning.specs.Words.{_=?_}
-use Rattle.meaning.specs.Records.{table, Item, rowOf}
+use Rattle.meaning.specs.Records.{table, Item, rowOf, mostOrdinates}
 use Rattle.meaning.specs.Blocks.{Card, Absent, opened}
 use Rattle.records.specs.Rows.{items, mostIn, start, wordsOf}
 use Rattle.blocks.specs.Regions.{regions-set}
@@ -55,7 +55,7 @@ module _ (w : List ℕ) (all : Clear items w) where
   clear-block name =
       ap (named name) (all-absent (regions w) (λ (p : ℕ) (h : p < length (regions w)). all p (rw (all-regions w) at h)) ∙ ap (λ (n : ℕ). replicate n Absent) (all-regions w))
 
-  pub clear-kept : (nq : ℕ) → nq ≤ 300 → wordsOf table ≤ length w → Counted nq w
+  pub clear-kept : (nq : ℕ) → nq ≤ mostOrdinates → wordsOf table ≤ length w → Counted nq w
   clear-kept nq few long = record { few = few; long = long; heads = low }
     where
       low : (p : ℕ) → headIn (regionOf p w) ≤ suc (mostIn (rowOf p) nq)

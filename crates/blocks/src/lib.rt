@@ -7,7 +7,7 @@ ghost use Prim.Native.Nat.{ℕ, suc, _+_, _≤_, _<_};
 ghost use lib.ListN.{length, take, getD, set};
 ghost use lib.Seq.{paste};
 ghost use Rattle.meaning.specs.Words.{_<?_, met, if_then_else_};
-ghost use Rattle.meaning.specs.Records.{rowOf, table};
+ghost use Rattle.meaning.specs.Records.{rowOf, table, mostOrdinates};
 ghost use Rattle.meaning.specs.Blocks.{isGiven, valuesOf, cardOf, repeated, opened, kindOf};
 ghost use Rattle.blocks.specs.Cards.{headIn, countBy, blockOf, Counted, Readable, Takes};
 ghost use Rattle.records.specs.Rows.{items, spanIn, wordsOf};
@@ -135,7 +135,7 @@ pub fn value_at(cards: &[u64], item: usize, k: usize) -> u64
 // No record is there: a block just opened. The values need not be touched.
 pub fn clear(cards: &mut [u64])
     requires { ⌜ wordsOf table ≤ length (now cards) ⌝ }
-    ensures { λ _. ⌜ ((name : List ℕ) → blockOf name (now (cards .exit)) ≡ opened name) × ((nq : ℕ) → nq ≤ 300 → Counted nq (now (cards .exit))) ⌝ }
+    ensures { λ _. ⌜ ((name : List ℕ) → blockOf name (now (cards .exit)) ≡ opened name) × ((nq : ℕ) → nq ≤ mostOrdinates → Counted nq (now (cards .exit))) ⌝ }
 {
     let mut item: usize = 0;
     while item < records::RECORDS {

@@ -13,6 +13,7 @@ use Rattle.sequences.specs.Parts.{part, put}
 use Rattle.meaning.specs.Blocks.{Time, Block, Held, total}
 use Rattle.meaning.specs.Results.{Result, recordOf, recordSize}
 use Rattle.meaning.specs.Run.{heldFor, heldAfter, namedFlow}
+use Rattle.meaning.specs.Records.{mostOrdinates}
 use Rattle.stack.specs.declared.Stack.{Stack}
 use Rattle.stack.specs.View.{Fits, view, noneHeld, length-held}
 use Rattle.stack.specs.Limits.{Within}
@@ -45,7 +46,7 @@ carried-none named nq n m =
 -- by a block that is closed and not refused, once its result is written
 module _ {τ : Time} {b : Block} {s : Stack} {named : ℕ} {n m : ℕ} (rs : List Result) {c : Closed} {w w′ ordinates ordinates′ records records′ : List ℕ} where
   pub carried-more : Closes τ b s w c w′ → c .refusal ≡ 0 → length (b .name) ≤ 6
-      → ordinates′ ≡ copiedNamed named (length rs) (τ .ordinates) (part (300 * (c .held .depth - 1)) (τ .ordinates) w′) ordinates
+      → ordinates′ ≡ copiedNamed named (length rs) (τ .ordinates) (part (mostOrdinates * (c .held .depth - 1)) (τ .ordinates) w′) ordinates
       → records′ ≡ recordPut (length rs) (recordTold (b .name) c) records
       → length ordinates′ ≡ length ordinates → length records′ ≡ length records → Carried named (τ .ordinates) n m rs ordinates records
       → Carried named (τ .ordinates) n m (rs ++ (resultOf τ b s w ∷ [])) ordinates′ records′
@@ -82,7 +83,7 @@ pub record HeldAfter (k : ℕ) (s : Stack) (nq : ℕ) (w : List ℕ) : Type 0 wh
   pub flows : Within (view s nq w)
   pub areas : total (view s nq w) .area ≤ 999_999 * k
 
-pub held-none : (nq : ℕ) (w : List ℕ) → nq ≤ 300 → 6_000 ≤ length w → HeldAfter 0 noneHeld nq w
+pub held-none : (nq : ℕ) (w : List ℕ) → nq ≤ mostOrdinates → 6_000 ≤ length w → HeldAfter 0 noneHeld nq w
 held-none nq w few enough = record { fits = record { deep = zero-le; ordinates = few; enough = enough }; flows = tt; areas = zero-le }
 
 pub held-more : (τ : Time) (b : Block) (k : ℕ) (s next : Stack) (w w′ : List ℕ) → HeldAfter k s (τ .ordinates) w → length w′ ≡ length w
@@ -99,7 +100,7 @@ module _ (τ : Time) (b : Block) (before : List Held) (next : Stack) (w : List �
   pub depth-after : length (heldAfter τ b before) ≡ next .depth
   depth-after = sym (ap length (keeps .held)) ∙ length-held (τ .ordinates) (next .areas) (next .depth) w
 
-  pub last-flow : part (300 * (next .depth - 1)) (τ .ordinates) w ≡ heldFor τ b before .flow
+  pub last-flow : part (mostOrdinates * (next .depth - 1)) (τ .ordinates) w ≡ heldFor τ b before .flow
   last-flow = view-last next (τ .ordinates) w (keeps .held) .flow
 
 pub held-within : (k : ℕ) (s : Stack) (nq : ℕ) (w : List ℕ) → k ≤ 199 → HeldAfter k s nq w → HeldWithin s nq w

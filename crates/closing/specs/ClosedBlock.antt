@@ -12,7 +12,7 @@ use lib.ListN.{length, length-drop}
 use Rattle.sequences.specs.Bounds.{AllUpTo}
 use Rattle.sequences.specs.Parts.{part}
 use Rattle.meaning.specs.Water.{flowLimit}
-use Rattle.meaning.specs.Records.{table}
+use Rattle.meaning.specs.Records.{table, mostOrdinates}
 use Rattle.meaning.specs.Blocks.{Time, Block, Kind, kindNumber, kindOf, takes, Held, total, unitOrdinates}
 use Rattle.meaning.specs.Results.{peakOf}
 use Rattle.meaning.specs.Run.{heldFor, heldAfter, shapeRefusal, flowRefusal, closingRefusal}
@@ -120,7 +120,7 @@ module _ (τ : Time) (b : Block) (s : Stack) (w : List ℕ) where
         (arith, room, takes-by b refl, length-held (τ .ordinates) (next .areas) (next .depth) w′, ap length (makes .held), length-drop (takes b) before)
 
     pub made-within : CardsWithin b → length (b .cards) ≡ length table → length (unitOrdinates b) ≤ 150 → TimeWithin τ → Within before
-        → AllUpTo 18_000_000_000_000_000 (part (300 * (next .depth - 1)) (τ .ordinates) w′)
+        → AllUpTo 18_000_000_000_000_000 (part (mostOrdinates * (next .depth - 1)) (τ .ordinates) w′)
     made-within cards long few time flows =
         subst (λ (q : List ℕ). AllUpTo 18_000_000_000_000_000 q) (sym (made-last .flow)) (flow-within τ b before cards sound long few time flows)
 

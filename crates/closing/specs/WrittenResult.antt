@@ -10,6 +10,7 @@ use Rattle.meaning.specs.Words.{_=?_, _≤?_, if_then_else_}
 use Rattle.meaning.specs.Blocks.{Time, Block, kindOf}
 use Rattle.meaning.specs.Results.{Result, recordOf, recordSize}
 use Rattle.meaning.specs.Run.{heldFor, closingRefusal}
+use Rattle.meaning.specs.Records.{mostOrdinates}
 use Rattle.stack.specs.declared.Stack.{Stack}
 use Rattle.stack.specs.View.{view}
 use Rattle.results.specs.Record.{recordBytes, record-of}
@@ -50,5 +51,5 @@ module _ {τ : Time} {b : Block} {s : Stack} {w : List ℕ} {c : Closed} {w′ :
     pub told-record : recordTold (b .name) c ≡ recordOf (resultOf τ b s w)
     told-record = ap (recordTold (b .name)) told ∙ sym (record-of (resultOf τ b s w))
 
-    pub told-flow : part (300 * (c .held .depth - 1)) (τ .ordinates) w′ ≡ resultOf τ b s w .held .flow
+    pub told-flow : part (mostOrdinates * (c .held .depth - 1)) (τ .ordinates) w′ ≡ resultOf τ b s w .held .flow
     told-flow = view-last (c .held) (τ .ordinates) w′ (closes .keeps none .held) .flow

@@ -5,6 +5,7 @@ ghost use Prim.Native.Nat.{ℕ, _-_, _*_, _≤_};
 ghost use lib.ListN.{length, getD};
 ghost use Rattle.sequences.specs.Bounds.{AllUpTo};
 ghost use Rattle.sequences.specs.Parts.{part};
+ghost use Rattle.meaning.specs.Records.{mostOrdinates};
 ghost use Rattle.blocks.specs.Meant.{timeIs, nameIs};
 ghost use Rattle.blocks.specs.Cards.{blockOf};
 ghost use Rattle.stack.specs.View.{Fits};
@@ -50,9 +51,9 @@ fn refuse(refusal: u64, held: Stack) -> Closed
 // Where the hydrograph held last begins in the work words.
 fn last_place(held: Stack) -> usize
     requires { ⌜ (1 ≤ held .depth) × (held .depth ≤ 20) ⌝ }
-    ensures { λ r. ⌜ r ≡ 300 * (held .depth - 1) ⌝ }
+    ensures { λ r. ⌜ r ≡ mostOrdinates * (held .depth - 1) ⌝ }
 {
-    300 * (held.depth - 1)
+    stack::PLACE * (held.depth - 1)
 }
 
 // The area of the hydrograph held last.
@@ -67,8 +68,8 @@ fn last_area(held: Stack) -> u32
 // The summary of the hydrograph held last.
 fn summarize_last(work: &[u64], held: Stack, nq: usize) -> Summary
     requires { ⌜ (1 ≤ held .depth) × Fits (held .depth) nq (length (now work)) ⌝ }
-    requires { ⌜ AllUpTo 18_000_000_000_000_000 (part (300 * (held .depth - 1)) nq (now work)) ⌝ }
-    ensures { λ r. ⌜ r ≡ summaryOf (part (300 * (held .depth - 1)) nq (now (work .entry))) ⌝ }
+    requires { ⌜ AllUpTo 18_000_000_000_000_000 (part (mostOrdinates * (held .depth - 1)) nq (now work)) ⌝ }
+    ensures { λ r. ⌜ r ≡ summaryOf (part (mostOrdinates * (held .depth - 1)) nq (now (work .entry))) ⌝ }
 {
     let p = last_place(held);
     results::summarize(&work[p..p + nq])
@@ -124,7 +125,7 @@ fn write_record(records: &mut [u8], k: usize, name: Name, closed: Closed)
 // The hydrograph held last, in front of the ordinates, where there is room for it.
 pub fn copy_last(ordinates: &mut [u64], work: &[u64], held: Stack, nq: usize)
     requires { ⌜ (1 ≤ held .depth) × Fits (held .depth) nq (length (now work)) ⌝ }
-    ensures { λ _. ⌜ now (ordinates .exit) ≡ copiedFirst nq (part (300 * (held .depth - 1)) nq (now (work .entry))) (now (ordinates .entry)) ⌝ }
+    ensures { λ _. ⌜ now (ordinates .exit) ≡ copiedFirst nq (part (mostOrdinates * (held .depth - 1)) nq (now (work .entry))) (now (ordinates .entry)) ⌝ }
 {
     if ordinates.len() < nq {
         return;
@@ -137,7 +138,7 @@ pub fn copy_last(ordinates: &mut [u64], work: &[u64], held: Stack, nq: usize)
 fn copy_named(ordinates: &mut [u64], work: &[u64], held: Stack, nq: usize, named: usize, k: usize)
     requires { ⌜ k ≤ 199 ⌝ }
     requires { ⌜ (1 ≤ held .depth) × Fits (held .depth) nq (length (now work)) ⌝ }
-    ensures { λ _. ⌜ now (ordinates .exit) ≡ copiedNamed named k nq (part (300 * (held .depth - 1)) nq (now (work .entry))) (now (ordinates .entry)) ⌝ }
+    ensures { λ _. ⌜ now (ordinates .exit) ≡ copiedNamed named k nq (part (mostOrdinates * (held .depth - 1)) nq (now (work .entry))) (now (ordinates .entry)) ⌝ }
 {
     if named != k + 1 {
         return;
@@ -158,7 +159,7 @@ pub fn write_result(
 )
     requires { ⌜ (k ≤ 199) × (name .letters ≤ 6) ⌝ }
     requires { ⌜ (1 ≤ closed .held .depth) × Fits (closed .held .depth) nq (length (now work)) ⌝ }
-    ensures copied { λ _. ⌜ now (ordinates .exit) ≡ copiedNamed named k nq (part (300 * (closed .held .depth - 1)) nq (now (work .entry))) (now (ordinates .entry)) ⌝ }
+    ensures copied { λ _. ⌜ now (ordinates .exit) ≡ copiedNamed named k nq (part (mostOrdinates * (closed .held .depth - 1)) nq (now (work .entry))) (now (ordinates .entry)) ⌝ }
     ensures written { λ _. ⌜ now (records .exit) ≡ recordPut k (recordTold (nameIs name) closed) (now (records .entry)) ⌝ }
 {
     write_record(records, k, name, closed);

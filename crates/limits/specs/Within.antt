@@ -16,7 +16,7 @@ use Rattle.sequences.specs.Refusals.{neither-met, not-met}
 use Rattle.sequences.specs.Choices.{below-or-not}
 use Rattle.meaning.specs.Words.{_=?_, if_then_else_, met}
 use Rattle.meaning.specs.Fields.{Form, fieldsOf, nameIn}
-use Rattle.meaning.specs.Records.{Item, Row, Once, Listed, table, rowOf, rulesIn, listsIn, Record, ID, IT, KK, KM, ZZ, Control, Of, Rule, ruleAt, timeRules, rulesOf, filledUp, valueFields, anyFaulty, anyOutside, valuesFrom, badName}
+use Rattle.meaning.specs.Records.{Item, Row, Once, Listed, table, rowOf, rulesIn, listsIn, Record, ID, IT, KK, KM, ZZ, Control, Of, Rule, ruleAt, timeRules, rulesOf, filledUp, valueFields, anyFaulty, anyOutside, valuesFrom, badName, mostOrdinates}
 use Rattle.meaning.specs.Blocks.{Time, Card, Absent, Given, isGiven, valuesOf, Block, cardOf, opened, repeated, tooMany}
 use Rattle.meaning.specs.Run.{Head, Faulty, Skipped, Holds, headOf, Reading, BeforeTime, BeforeBlocks, InBlock, Event, Refuse, Go, Open, End, unless, timeRefusal, timeOf, nameRefusal, itemValues, itemRefusal, withItem, readRecord, readBy, readLine}
 use Rattle.records.specs.Blanks.{filled-long}
@@ -27,7 +27,7 @@ pub record TimeWithin (τ : Time) : Type 0 where
   pub some-minutes : 1 ≤ τ .minutes
   pub few-minutes : τ .minutes ≤ 1440
   pub some-ordinates : 1 ≤ τ .ordinates
-  pub few-ordinates : τ .ordinates ≤ 300
+  pub few-ordinates : τ .ordinates ≤ mostOrdinates
 
 -- The rule of a value of a card, and how many fields a record has that stands once.
 abbrev pub valueRule : Row → ℕ → Rule

@@ -10,6 +10,7 @@ use Rattle.sequences.specs.Parts.{part, put}
 use Rattle.meaning.specs.Water.{inflowOf, routedOf}
 use Rattle.meaning.specs.Blocks.{Time, Block, Kind, NoKind, Basin, Inflow, Confluence, Reach, kindOf, total, basinArea, combined, inflowValues, reachSteps, reachK, reachX}
 use Rattle.meaning.specs.Run.{heldAfter}
+use Rattle.meaning.specs.Records.{mostOrdinates}
 use Rattle.stack.specs.declared.Stack.{Stack}
 use Rattle.stack.specs.View.{Fits, view, pushed}
 use Rattle.stack.specs.Joining.{joinedStack, joinedAllWords}
@@ -31,11 +32,11 @@ stackBy Reach b s = s
 
 abbrev pub wordsBy : Kind → Time → Block → Stack → List ℕ → List ℕ
 wordsBy NoKind τ b s w = w
-wordsBy Basin τ b s w = put (300 * s .depth) (τ .ordinates) w (blockRunoff τ b)
-wordsBy Inflow τ b s w = put (300 * s .depth) (τ .ordinates) w (inflowOf (inflowValues b) (τ .ordinates))
+wordsBy Basin τ b s w = put (mostOrdinates * s .depth) (τ .ordinates) w (blockRunoff τ b)
+wordsBy Inflow τ b s w = put (mostOrdinates * s .depth) (τ .ordinates) w (inflowOf (inflowValues b) (τ .ordinates))
 wordsBy Confluence τ b s w = joinedAllWords (combined b - 1) (s .depth) (τ .ordinates) w
 wordsBy Reach τ b s w =
-    put (300 * (s .depth - 1)) (τ .ordinates) w (routedOf (reachSteps b) (τ .minutes) (reachK b) (reachX b) (part (300 * (s .depth - 1)) (τ .ordinates) w))
+    put (mostOrdinates * (s .depth - 1)) (τ .ordinates) w (routedOf (reachSteps b) (τ .minutes) (reachK b) (reachX b) (part (mostOrdinates * (s .depth - 1)) (τ .ordinates) w))
 
 pub record Makes (τ : Time) (b : Block) (s : Stack) (w : List ℕ) (next : Stack) (w′ : List ℕ) : Type 0 where
   pub stack : next ≡ stackBy (kindOf b) b s

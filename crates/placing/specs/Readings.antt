@@ -10,6 +10,7 @@ use Rattle.meaning.specs.Blocks as blocks
 use Rattle.meaning.specs.Blocks.{Block, opened}
 use Rattle.meaning.specs.Run as run
 use Rattle.meaning.specs.Run.{BeforeTime, BeforeBlocks, InBlock}
+use Rattle.meaning.specs.Records.{mostOrdinates}
 use Rattle.fields.specs.Spans.{formOf}
 use Rattle.blocks.specs.declared.Name.{Name}
 use Rattle.blocks.specs.Meant.{timeIs, nameIs}
@@ -51,7 +52,7 @@ openedIn r name = InBlock (timeIn r) (formIn r) (opened name)
 
 -- Before the first block the words hold nothing that counts; in a block they count no more than it may have.
 pub record Ready (r : Reading) (w : List ℕ) : Type 0 where
-  pub few-ordinates : r .time .ordinates ≤ 300
+  pub few-ordinates : r .time .ordinates ≤ mostOrdinates
   pub short-name : r .name .letters ≤ 6
   pub readable : Readable w
   pub counted : r .phase ≡ phase.InBlock → Counted (r .time .ordinates) w

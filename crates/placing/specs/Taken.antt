@@ -12,7 +12,7 @@ use lib.ListN.{take, getD}
 use lib.Seq.{getD-take}
 use Rattle.meaning.specs.Words.{if_then_else_, met}
 use Rattle.meaning.specs.Fields.{Form}
-use Rattle.meaning.specs.Records.{Row, Once, Listed, Item, rowOf, listsIn, filledUp, rulesIn, rulesOf, timeRules, valueFields, anyFaulty, anyOutside}
+use Rattle.meaning.specs.Records.{Row, Once, Listed, Item, rowOf, listsIn, filledUp, rulesIn, rulesOf, timeRules, valueFields, anyFaulty, anyOutside, mostOrdinates}
 use Rattle.meaning.specs.Blocks.{Time, Block, repeated, tooMany}
 use Rattle.meaning.specs.Run.{BeforeTime, BeforeBlocks, InBlock, Refuse, Go, unless, timeRefusal, timeOf, itemValues, itemRefusal, withItem}
 use Rattle.fields.specs.Spans.{formOf}
@@ -62,7 +62,7 @@ module _ (fs : List (List ℕ)) (s : Scanned) (read : LineRead (fieldRow items) 
   unfolding timeOf
   time-read = rw (← read .values, getD-take 4 (s .values) 0 0 (omega arith), getD-take 4 (s .values) 3 0 (omega arith))
 
-  few-ordinates : s .outside ≡ false → getD (s .values) 3 0 ≤ 300
+  few-ordinates : s .outside ≡ false → getD (s .values) 3 0 ≤ mostOrdinates
   few-ordinates e =
       let v = values-at-most timeRules 0 (filledUp timeRules fs) (sym (read .flag) ∙ e) 3 in
       rw (← read .values, getD-take 4 (s .values) 3 0 (omega arith)) at v
@@ -123,7 +123,7 @@ module _ (r : Reading) (item : Item) (s : Scanned) (w : List ℕ) where
   outside-taken due e = record { event = λ fs read. outside-by (r .phase) due fs read e; ready = λ z. absurd (omega arith) }
 
   module _ (inside : s .outside ≡ false) (ready : Ready r w) where
-    pub time-few : item ≡ items → Passed item s → getD (s .values) 3 0 ≤ 300
+    pub time-few : item ≡ items → Passed item s → getD (s .values) 3 0 ≤ mostOrdinates
     time-few due p = few-ordinates (p .fields) s (at-time due (p .read)) inside
 
     pub time-line : r .phase ≡ phase.BeforeTime → item ≡ items → Passed item s → LineTaken r item s (timeTaken r (s .values)) w w

@@ -7,6 +7,7 @@ use scanning::Scan;
 ghost use mathlib.Core.Path.{_≡_};
 ghost use Prim.Native.Nat.{_≤_};
 ghost use lib.ListN.{length, getD};
+ghost use Rattle.meaning.specs.Records.{mostOrdinates};
 ghost use Rattle.scanning.specs.Scans.{scannedOf};
 ghost use Rattle.placing.specs.Readings.{Ready};
 ghost use Rattle.placing.specs.Places.{Due};
@@ -14,7 +15,7 @@ ghost use Rattle.placing.specs.Taken.{timeTaken, Passed, LineTaken};
 
 // IT taken: minutes and ordinates.
 fn take_time(r: Reading, values: &[u64]) -> Read
-    requires { ⌜ (length (now values) ≡ 10) × (getD (now values) 3 0 ≤ 300) ⌝ }
+    requires { ⌜ (length (now values) ≡ 10) × (getD (now values) 3 0 ≤ mostOrdinates) ⌝ }
     ensures { λ x. ⌜ x ≡ timeTaken r (now (values .entry)) ⌝ }
 {
     let name = r.name;

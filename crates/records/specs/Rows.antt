@@ -11,7 +11,7 @@ use native.Mathlib.Omega.{arith}
 use borrow.Author.Tests.{leb-true}
 use Rattle.sequences.specs.Choices.{both-hold}
 use Rattle.meaning.specs.Words.{_=?_, _≤?_, if_then_else_}
-use Rattle.meaning.specs.Records.{Rule, UpTo, UpToNQ, Row, Once, Listed, table, timeRules, Item, rowOf, rulesIn}
+use Rattle.meaning.specs.Records.{Rule, UpTo, UpToNQ, Row, Once, Listed, table, timeRules, Item, rowOf, rulesIn, mostOrdinates}
 
 -- how many records there are
 abbrev pub items : ℕ
@@ -37,7 +37,7 @@ block-row item h = List·getD-append table (Once "IT" timeRules ∷ []) (Once ""
 abbrev pub roomIn : Row → ℕ
 roomIn (Once identifier fields) = length fields
 roomIn (Listed identifier (UpTo n) each) = n
-roomIn (Listed identifier UpToNQ each) = 300
+roomIn (Listed identifier UpToNQ each) = mostOrdinates
 
 abbrev pub startOf : List Row → ℕ → ℕ
 startOf rows zero = 0
@@ -110,7 +110,7 @@ module _ (row : Row) where
       by (Listed i (UpTo n) r) = refl
       by (Listed i UpToNQ r) = refl
 
-  pub most-fits : (nq : ℕ) → nq ≤ 300 → mostIn row nq ≤ roomIn row
+  pub most-fits : (nq : ℕ) → nq ≤ mostOrdinates → mostIn row nq ≤ roomIn row
   most-fits nq h = by row
     where
       by : (r : Row) → mostIn r nq ≤ roomIn r

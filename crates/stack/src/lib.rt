@@ -1,5 +1,5 @@
-// The hydrographs held: their areas by value and their ordinates in the lent work words, 300 words to a place. A function for each kind of block works on
-// those held last, in the part of the work words from 300 times the place.
+// The hydrographs held: their areas by value and their ordinates in the lent work words, as many words to a place as a hydrograph has at most. A function for each
+// kind of block works on those held last, in the part of the work words from their place on.
 ghost use mathlib.Core.Path.{_≡_};
 ghost use mathlib.Core.List.{_∷_};
 ghost use Prim.Native.Nat.{ℕ, _+_, _-_, _*_, _≤_, _<_, _^_};
@@ -8,12 +8,19 @@ ghost use Rattle.sequences.specs.Bounds.{AllUpTo};
 ghost use Rattle.sequences.specs.Parts.{part, put};
 ghost use Rattle.meaning.specs.Water.{inflowOf, plus, routedOf};
 ghost use Rattle.meaning.specs.Blocks.{total};
+ghost use Rattle.meaning.specs.Records.{mostOrdinates};
 ghost use Rattle.routing.specs.Soundness.{Reach};
 ghost use Rattle.runoff.specs.Storm.{Storm, stormRunoff};
 ghost use Rattle.stack.specs.View.{Fits, view, noneHeld, pushed, heldOf, routedHeld};
 ghost use Rattle.stack.specs.Joining.{joinedPair, joinedWords, joinedStack, joinedAllWords};
 ghost use Rattle.stack.specs.Limits.{Tops, Within, Added};
 use excess::Loss;
+
+// The words of a place: the most ordinates that a hydrograph has.
+pub const PLACE: usize = 300;
+
+// Those of two places.
+const PAIR: usize = 2 * PLACE;
 
 // How many are held, and the area of each in hundredths of a square mile, the first held first.
 pub struct Stack {
@@ -56,10 +63,10 @@ pub fn hold_basin(
     requires { ⌜ Fits (stack .depth + 1) nq (length (now work)) ⌝ }
     requires { ⌜ Storm (now units) (now rains) nq ⌝ }
     ensures { λ r. ⌜ r ≡ pushed area stack ⌝ }
-    ensures words { λ _. ⌜ now (work .exit) ≡ put (300 * stack .depth) nq (now (work .entry)) (stormRunoff (now (units .entry)) (now (rains .entry)) loss nq) ⌝ }
+    ensures words { λ _. ⌜ now (work .exit) ≡ put (mostOrdinates * stack .depth) nq (now (work .entry)) (stormRunoff (now (units .entry)) (now (rains .entry)) loss nq) ⌝ }
     ensures held { λ r. ⌜ view r nq (now (work .exit)) ≡ heldOf area (stormRunoff (now (units .entry)) (now (rains .entry)) loss nq) ∷ view stack nq (now (work .entry)) ⌝ }
 {
-    let p = 300 * stack.depth;
+    let p = PLACE * stack.depth;
     runoff::runoff_into(&mut work[p..p + nq], units, rains, loss);
     push(stack, area)
 }
@@ -69,10 +76,10 @@ pub fn hold_inflow(work: &mut [u64], stack: Stack, nq: usize, area: u32, values:
     requires { ⌜ Fits (stack .depth + 1) nq (length (now work)) ⌝ }
     requires { ⌜ AllUpTo 10_000_000 (now values) ⌝ }
     ensures { λ r. ⌜ r ≡ pushed area stack ⌝ }
-    ensures words { λ _. ⌜ now (work .exit) ≡ put (300 * stack .depth) nq (now (work .entry)) (inflowOf (now (values .entry)) nq) ⌝ }
+    ensures words { λ _. ⌜ now (work .exit) ≡ put (mostOrdinates * stack .depth) nq (now (work .entry)) (inflowOf (now (values .entry)) nq) ⌝ }
     ensures held { λ r. ⌜ view r nq (now (work .exit)) ≡ heldOf area (inflowOf (now (values .entry)) nq) ∷ view stack nq (now (work .entry)) ⌝ }
 {
-    let p = 300 * stack.depth;
+    let p = PLACE * stack.depth;
     runoff::inflow_into(&mut work[p..p + nq], values);
     push(stack, area)
 }
@@ -100,8 +107,8 @@ fn join_pair(work: &mut [u64], stack: Stack, nq: usize) -> Stack
 {
     let last = stack.depth - 1;
     let lower = stack.depth - 2;
-    let p = 300 * lower;
-    add_from(&mut work[p..p + 600], 300, nq);
+    let p = PLACE * lower;
+    add_from(&mut work[p..p + PAIR], PLACE, nq);
     let mut areas = stack.areas;
     areas[lower] = areas[last] + areas[lower];
     Stack { areas, depth: last }
@@ -131,9 +138,9 @@ pub fn route_last(work: &mut [u64], stack: Stack, nq: usize, n: u64, m: u64, k: 
     requires { ⌜ (1 ≤ stack .depth) × Fits (stack .depth) nq (length (now work)) ⌝ }
     requires { ⌜ Within (view stack nq (now work)) ⌝ }
     requires { ⌜ Reach n m k x ⌝ }
-    ensures { λ _. ⌜ now (work .exit) ≡ put (300 * (stack .depth - 1)) nq (now (work .entry)) (routedOf n m k x (part (300 * (stack .depth - 1)) nq (now (work .entry)))) ⌝ }
+    ensures { λ _. ⌜ now (work .exit) ≡ put (mostOrdinates * (stack .depth - 1)) nq (now (work .entry)) (routedOf n m k x (part (mostOrdinates * (stack .depth - 1)) nq (now (work .entry)))) ⌝ }
     ensures held { λ _. ⌜ view stack nq (now (work .exit)) ≡ routedHeld n m k x (total (take 1 (view stack nq (now (work .entry))))) ∷ drop 1 (view stack nq (now (work .entry))) ⌝ }
 {
-    let p = 300 * (stack.depth - 1);
+    let p = PLACE * (stack.depth - 1);
     routing::route(&mut work[p..p + nq], n, m, k, x);
 }

@@ -7,7 +7,7 @@ use borrow.Author.Tests.{le-leb, lt-leb, eq-eqb, ne-eqb}
 use lib.ListN.{length}
 use Rattle.meaning.specs.Words.{_=?_, _≤?_, met, first}
 use Rattle.meaning.specs.Blocks.{Time}
-use Rattle.meaning.specs.Run.{Reading, Refuse, Open, End, Standing, openRefusal, closed, oneMore, Stopped, Done, Stop, Next, stepUnless, andThen, walk}
+use Rattle.meaning.specs.Run.{Reading, Refuse, Open, End, Standing, openRefusal, closed, oneMore, Stopped, Done, Stop, Next, stepUnless, andThen, walk, mostBlocks}
 use Rattle.events.specs.NextEvent.{Found, Missing, Met, nextEvent, workFound, walk-read}
 
 module _ (ls : List (List ℕ)) (r : Reading) (s : Standing) (n : ℕ) where
@@ -23,18 +23,18 @@ module _ (ls : List (List ℕ)) (r : Reading) (s : Standing) (n : ℕ) where
   -- KK
   module _ (next q : Reading) (line : ℕ) (rest : List (List ℕ)) (e : nextEvent ls r n ≡ Met (Open next) q line rest) where
     opened : walk ls r s n
-        ≡ andThen (stepUnless (first (openRefusal q s) (met (200 ≤? s .blocks) 14)) line (Next next (oneMore (closed q s)))) (λ (r′ : Reading) (s′ : Standing). walk rest r′ s′ (line + 1))
+        ≡ andThen (stepUnless (first (openRefusal q s) (met (mostBlocks ≤? s .blocks) 14)) line (Next next (oneMore (closed q s)))) (λ (r′ : Reading) (s′ : Standing). walk rest r′ s′ (line + 1))
     opened = found-walk (Met (Open next) q line rest) e
 
     pub open-refused : (number : ℕ) → openRefusal q s ≡ number → (number ≡ 0 → ⊥) → walk ls r s n ≡ Stopped number line
     open-refused zero z some = absurd (some refl)
     open-refused (suc number) z some = opened ∙ rw z
 
-    pub open-too-many : openRefusal q s ≡ 0 → 200 ≤ s .blocks → walk ls r s n ≡ Stopped 14 line
-    open-too-many z h = opened ∙ rw (z, le-leb 200 (s .blocks) h)
+    pub open-too-many : openRefusal q s ≡ 0 → mostBlocks ≤ s .blocks → walk ls r s n ≡ Stopped 14 line
+    open-too-many z h = opened ∙ rw (z, le-leb mostBlocks (s .blocks) h)
 
-    pub open-goes : openRefusal q s ≡ 0 → s .blocks < 200 → walk ls r s n ≡ walk rest next (oneMore (closed q s)) (line + 1)
-    open-goes z h = opened ∙ rw (z, lt-leb 200 (s .blocks) h)
+    pub open-goes : openRefusal q s ≡ 0 → s .blocks < mostBlocks → walk ls r s n ≡ walk rest next (oneMore (closed q s)) (line + 1)
+    open-goes z h = opened ∙ rw (z, lt-leb mostBlocks (s .blocks) h)
 
   -- ZZ
   module _ (τ : Time) (q : Reading) (line : ℕ) (rest : List (List ℕ)) (e : nextEvent ls r n ≡ Met (End τ) q line rest) where

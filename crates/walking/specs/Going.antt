@@ -10,7 +10,8 @@ use Rattle.sequences.specs.Parts.{part}
 use Rattle.meaning.specs.Lines.{linesOf}
 use Rattle.meaning.specs.Blocks.{Time, Block, Held}
 use Rattle.meaning.specs.Results.{Result, recordSize}
-use Rattle.meaning.specs.Run.{Stopped, Done, Standing, walk, worked, namedFlow}
+use Rattle.meaning.specs.Run.{Stopped, Done, Standing, walk, worked, namedFlow, mostBlocks}
+use Rattle.meaning.specs.Records.{mostOrdinates}
 use Rattle.limits.specs.Within.{ReadingWithin}
 use Rattle.results.specs.Records.{recordsIn}
 use Rattle.placing.specs.declared.Phase.{Phase}
@@ -36,7 +37,7 @@ standing blocks held rs = record { blocks = blocks; held = held; results = rs }
 abbrev pub CountBy : Phase → (blocks results depth : ℕ) → Type 0
 CountBy phase.BeforeTime blocks results depth = (blocks ≡ 0) × (results ≡ 0) × (depth ≡ 0)
 CountBy phase.BeforeBlocks blocks results depth = (blocks ≡ 0) × (results ≡ 0) × (depth ≡ 0)
-CountBy phase.InBlock blocks results depth = (blocks ≡ results + 1) × (blocks ≤ 200)
+CountBy phase.InBlock blocks results depth = (blocks ≡ results + 1) × (blocks ≤ mostBlocks)
 
 -- n ordinates and m bytes of records are lent
 pub record Going (deck : List ℕ) (named n m : ℕ) (s : State) (work ordinates records cards : List ℕ) : Type 0 where
@@ -57,7 +58,7 @@ pub record DoneIs (deck : List ℕ) (named n m : ℕ) (nq blocks : ℕ) (ordinat
   pub done : worked deck ≡ Done time results
   pub ordinates-are : time .ordinates ≡ nq
   pub blocks-are : length results ≡ blocks
-  pub few : blocks ≤ 200
+  pub few : blocks ≤ mostBlocks
   pub told : recordSize * length results ≤ m → records ≡ recordsIn m results
   pub flow : named ≤ length results → nq ≤ n → ordinates ≡ namedFlow named results ++ replicate (n - nq) 0
 
@@ -82,7 +83,7 @@ pub record Finishes (τ : Time) (b : Block) (s : Stack) (named k : ℕ) (x : Fin
   pub closes : Closes τ b s work closed work′
   pub number : x .refusal ≡ closed .refusal
   pub held : x .held ≡ closed .held
-  pub copied : x .refusal ≡ 0 → ordinates′ ≡ copiedNamed named k (τ .ordinates) (part (300 * (closed .held .depth - 1)) (τ .ordinates) work′) ordinates
+  pub copied : x .refusal ≡ 0 → ordinates′ ≡ copiedNamed named k (τ .ordinates) (part (mostOrdinates * (closed .held .depth - 1)) (τ .ordinates) work′) ordinates
   pub written : x .refusal ≡ 0 → records′ ≡ recordPut k (recordTold (b .name) closed) records
 
 -- where a block closes, by the phase: the open block is finished; else nothing was open

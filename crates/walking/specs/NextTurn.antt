@@ -11,7 +11,8 @@ use lib.ListN.{length, drop}
 use Rattle.sequences.specs.Choices.{below-or-not}
 use Rattle.sequences.specs.Parts.{part}
 use Rattle.meaning.specs.Lines.{linesOf}
-use Rattle.meaning.specs.Run.{Open, End}
+use Rattle.meaning.specs.Run.{Open, End, mostBlocks}
+use Rattle.meaning.specs.Records.{mostOrdinates}
 use Rattle.events.specs.NextEvent.{Met, nextEvent}
 use Rattle.placing.specs.declared.Reading.{Reading}
 use Rattle.blocks.specs.declared.Name.{Name}
@@ -26,15 +27,15 @@ use Rattle.walking.specs.Ways.{copiedLast, kk-refused, kk-too-many, kk-g
 
 pub record OpensNext (r : Reading) (name : Name) (at line : ℕ) (closed : Finished) (blocks : ℕ) (t : Turn) (cards : List ℕ) : Type 0 where
   pub refused : (closed .refusal ≡ 0 → ⊥) → Stops (closed .refusal) line t
-  pub many : closed .refusal ≡ 0 → 200 ≤ blocks → Stops 14 line t
-  pub goes : closed .refusal ≡ 0 → blocks < 200 → GoesOn r (closed .held) name at line blocks t cards
+  pub many : closed .refusal ≡ 0 → mostBlocks ≤ blocks → Stops 14 line t
+  pub goes : closed .refusal ≡ 0 → blocks < mostBlocks → GoesOn r (closed .held) name at line blocks t cards
 
 -- the ordinates, once more where the deck is accepted: ordinates′
 pub record EndsDeck (nq line : ℕ) (closed : Finished) (blocks named : ℕ) (t : Turn) (work ordinates ordinates′ : List ℕ) : Type 0 where
   pub refused : (closed .refusal ≡ 0 → ⊥) → Stops (closed .refusal) line t
   pub not-one : closed .refusal ≡ 0 → (closed .held .depth ≡ 1 → ⊥) → Stops 15 line t
   pub done : closed .refusal ≡ 0 → closed .held .depth ≡ 1
-      → (t .ended ≡ true) × (t .worked ≡ workedWell nq blocks) × (ordinates′ ≡ copiedLast named nq (part (300 * (closed .held .depth - 1)) nq work) ordinates)
+      → (t .ended ≡ true) × (t .worked ≡ workedWell nq blocks) × (ordinates′ ≡ copiedLast named nq (part (mostOrdinates * (closed .held .depth - 1)) nq work) ordinates)
 
 is-or-not : (a b : ℕ) → (a ≡ b) ⊎ (a ≡ b → ⊥)
 is-or-not zero zero = inl refl
@@ -65,7 +66,7 @@ module _ (deck : List ℕ) (named n m : ℕ) (s : State) (work ordinates records
       (λ many.
       let stop = o .many z many in
       rw (stop .ended, stop .worked) (kk-too-many deck named n m s work ordinates records cards g r line rest cards′ ready x work′ ordinates′ records′ is name found z many))
-      (below-or-not (s .blocks) 200))
+      (below-or-not (s .blocks) mostBlocks))
       (λ some.
       let stop = o .refused some in
       rw (stop .ended, stop .worked) (kk-refused deck named n m s work ordinates records cards g r line rest cards′ ready x work′ ordinates′ records′ is name found some))

@@ -11,6 +11,7 @@ use Rattle.meaning.specs.Fields.{Form}
 use Rattle.meaning.specs.Blocks.{Time, Block}
 use Rattle.meaning.specs.Results.{Result}
 use Rattle.meaning.specs.Run.{Event}
+use Rattle.meaning.specs.Records.{mostOrdinates}
 use Rattle.events.specs.NextEvent.{Met, nextEvent}
 use Rattle.limits.specs.Within.{ReadingWithin, EventWithin, FoundWithin, found-within}
 use Rattle.events.specs.TimeControl.{Under, FoundUnder, found-under, Outside, FoundOutside, found-outside}
@@ -36,7 +37,7 @@ carried-moved named nq nq′ n m (r ∷ rs) ordinates records e c = absurd (omeg
 none-held : (nq nq′ : ℕ) (s : Stack) (w : List ℕ) → s .depth ≡ 0 → view s nq′ w ≡ view s nq w
 none-held nq nq′ s w e = rw e
 
-held-moved : (k nq nq′ : ℕ) (s : Stack) (w : List ℕ) → s .depth ≡ 0 → nq′ ≤ 300 → HeldAfter k s nq w → HeldAfter k s nq′ w
+held-moved : (k nq nq′ : ℕ) (s : Stack) (w : List ℕ) → s .depth ≡ 0 → nq′ ≤ mostOrdinates → HeldAfter k s nq w → HeldAfter k s nq′ w
 held-moved k nq nq′ s w e few h =
     record {
       fits = record { deep = h .fits .deep; ordinates = few; enough = h .fits .enough };

@@ -13,7 +13,8 @@ use Rattle.meaning.specs.Lines.{linesOf}
 use Rattle.meaning.specs.Fields.{Form}
 use Rattle.meaning.specs.Blocks.{Time, Block, Held}
 use Rattle.meaning.specs.Run as run
-use Rattle.meaning.specs.Run.{InBlock, Open, End, Standing, openRefusal, closed, withResult, oneMore, Stopped, Done, walk, worked, namedFlow, heldFor}
+use Rattle.meaning.specs.Run.{InBlock, Open, End, Standing, openRefusal, closed, withResult, oneMore, Stopped, Done, walk, worked, namedFlow, heldFor, mostBlocks}
+use Rattle.meaning.specs.Records.{mostOrdinates}
 use Rattle.events.specs.NextEvent.{Met, nextEvent}
 use Rattle.events.specs.TimeControl.{Timed, FoundTimed, found-timed}
 use Rattle.fields.specs.Spans.{formOf}
@@ -58,7 +59,7 @@ results-by phase.BeforeTime τ form b s depth h = omega arith
 results-by phase.BeforeBlocks τ form b s depth h = omega arith
 results-by phase.InBlock τ form b s depth h = length-append (s .results) _ ∙ sym (h .0)
 
-few-by : (p : Phase) (blocks results depth : ℕ) → CountBy p blocks results depth → blocks ≤ 200
+few-by : (p : Phase) (blocks results depth : ℕ) → CountBy p blocks results depth → blocks ≤ mostBlocks
 few-by phase.BeforeTime blocks results depth h = omega arith
 few-by phase.BeforeBlocks blocks results depth h = omega arith
 few-by phase.InBlock blocks results depth h = h .1
@@ -80,7 +81,7 @@ none-closed y nq w held e none some =
 last-by : (p : Phase) (τ : Time) (form : Form) (b : Block) (st : Standing) (depth nq n m : ℕ) (y : Stack) (w ordinates records : List ℕ)
     → CountBy p (st .blocks) (length (st .results)) depth → length (st .held) ≡ depth → view y nq w ≡ closed (readingBy p τ form b) st .held → 1 ≤ y .depth → nq ≤ n
     → Carried 0 nq n m (closed (readingBy p τ form b) st .results) ordinates records
-    → copiedFirst nq (part (300 * (y .depth - 1)) nq w) ordinates ≡ namedFlow 0 (closed (readingBy p τ form b) st .results) ++ replicate (n - nq) 0
+    → copiedFirst nq (part (mostOrdinates * (y .depth - 1)) nq w) ordinates ≡ namedFlow 0 (closed (readingBy p τ form b) st .results) ++ replicate (n - nq) 0
 unfolding withResult
 last-by phase.BeforeTime τ form b st depth nq n m y w ordinates records count held e some room c = absurd (none-closed y nq w (st .held) e (held ∙ count .2) some)
 last-by phase.BeforeBlocks τ form b st depth nq n m y w ordinates records count held e some room c = absurd (none-closed y nq w (st .held) e (held ∙ count .2) some)
@@ -134,10 +135,10 @@ module _ (deck : List ℕ) (named n m : ℕ) (s : State) (work ordinates records
     pub kk-refused : (x .refusal ≡ 0 → ⊥) → worked deck ≡ Stopped (x .refusal) line
     kk-refused some = sym (walked (Open next) found) ∙ open-refused lines from stand (s .line + 1) next q line rest found (x .refusal) (number (Open next) found) some
 
-    pub kk-too-many : x .refusal ≡ 0 → 200 ≤ s .blocks → worked deck ≡ Stopped 14 line
+    pub kk-too-many : x .refusal ≡ 0 → mostBlocks ≤ s .blocks → worked deck ≡ Stopped 14 line
     kk-too-many z h = sym (walked (Open next) found) ∙ open-too-many lines from stand (s .line + 1) next q line rest found (number (Open next) found ∙ z) h
 
-    module _ (at : ℕ) (here : rest ≡ linesOf (drop at deck)) (up : at ≤ length deck) (counted : line ≤ at) (few : s .blocks < 200)
+    module _ (at : ℕ) (here : rest ≡ linesOf (drop at deck)) (up : at ≤ length deck) (counted : line ≤ at) (few : s .blocks < mostBlocks)
         (lw : length work′ ≡ length work) (lo : length ordinates′ ≡ length ordinates) (lr : length records′ ≡ length records) (none : x .refusal ≡ 0)
         (t : Turn) (cards″ : List ℕ) (goes : GoesOn r (x .held) name at line (s .blocks) t cards″) where
       timed : (timeIn q ≡ timeIs (r .time)) × (formIn q ≡ formOf (r .free))
@@ -188,7 +189,7 @@ module _ (deck : List ℕ) (named n m : ℕ) (s : State) (work ordinates records
           ∙ end-not-one lines from stand (s .line + 1) (timeIn q) q line rest found (number (End (timeIn q)) found ∙ none) (λ e. other (depth ∙ e))
 
       module _ (one : x .held .depth ≡ 1) (ordinates″ : List ℕ)
-          (copied : ordinates″ ≡ copiedLast named (r .time .ordinates) (part (300 * (x .held .depth - 1)) (r .time .ordinates) work′) ordinates′) where
+          (copied : ordinates″ ≡ copiedLast named (r .time .ordinates) (part (mostOrdinates * (x .held .depth - 1)) (r .time .ordinates) work′) ordinates′) where
         done : worked deck ≡ Done (timeIn q) (closed q stand .results)
         done =
             sym (walked (End (timeIn q)) found)
@@ -198,7 +199,7 @@ module _ (deck : List ℕ) (named n m : ℕ) (s : State) (work ordinates records
         w = well (End (timeIn q)) found lw lo lr none
 
         flow-by : (t : Bool) → (named =? 0) ≡ t → named ≤ length (closed q stand .results) → r .time .ordinates ≤ n
-            → copiedLast named (r .time .ordinates) (part (300 * (x .held .depth - 1)) (r .time .ordinates) work′) ordinates′
+            → copiedLast named (r .time .ordinates) (part (mostOrdinates * (x .held .depth - 1)) (r .time .ordinates) work′) ordinates′
             ≡ namedFlow named (closed q stand .results) ++ replicate (n - r .time .ordinates) 0
         flow-by true e few room =
             let last : named ≡ 0 = eqb-true named 0 e in

@@ -11,11 +11,16 @@ ghost use mathlib.Core.Bool.{true};
 ghost use Prim.Native.Nat.{_-_, _*_, _≤_};
 ghost use lib.ListN.{length};
 ghost use Rattle.sequences.specs.Parts.{part};
+ghost use Rattle.meaning.specs.Records.{mostOrdinates};
+ghost use Rattle.meaning.specs.Run.{mostBlocks};
 ghost use Rattle.stack.specs.View.{Fits};
 ghost use Rattle.placing.specs.Readings.{Ready};
 ghost use Rattle.walking.specs.Turns.{Stops, GoesOn, workedWell};
 ghost use Rattle.walking.specs.Ways.{copiedLast};
 ghost use Rattle.walking.specs.NextTurn.{OpensNext, EndsDeck};
+
+// The most blocks that a deck has.
+const BLOCKS: usize = 200;
 
 // The deck is refused.
 pub fn stop(s: State, number: u64, line: u64) -> Turn
@@ -44,7 +49,7 @@ fn go_on(
     blocks: usize,
     cards: &mut [u64],
 ) -> Turn
-    requires { ⌜ (name .letters ≤ 6) × (blocks ≤ 200) × Ready r (now cards) ⌝ }
+    requires { ⌜ (name .letters ≤ 6) × (blocks ≤ mostBlocks) × Ready r (now cards) ⌝ }
     ensures { λ t. ⌜ GoesOn r held name at line blocks t (now (cards .exit)) ⌝ }
 {
     Turn {
@@ -86,7 +91,7 @@ fn finish(s: State, nq: usize, blocks: usize) -> Turn
 // The hydrograph held last, in front of the ordinates, if no block was named.
 fn copy_if_last(ordinates: &mut [u64], work: &[u64], held: Stack, nq: usize, named: usize)
     requires { ⌜ (1 ≤ held .depth) × Fits (held .depth) nq (length (now work)) ⌝ }
-    ensures { λ _. ⌜ now (ordinates .exit) ≡ copiedLast named nq (part (300 * (held .depth - 1)) nq (now (work .entry))) (now (ordinates .entry)) ⌝ }
+    ensures { λ _. ⌜ now (ordinates .exit) ≡ copiedLast named nq (part (mostOrdinates * (held .depth - 1)) nq (now (work .entry))) (now (ordinates .entry)) ⌝ }
 {
     if named != 0 {
         return;
@@ -112,7 +117,7 @@ pub fn open_next(
         return stop(s, refusal, line);
     }
     let blocks = s.blocks;
-    if blocks >= 200 {
+    if blocks >= BLOCKS {
         return stop(s, 14, line);
     }
     let next = closed.held;

@@ -18,6 +18,9 @@ returns-11 c = rw (c .before .match .keys6) (past (rulesBy 5) (c .before .before
 returns-15 : tie.Need-returns-15
 returns-15 c = rw (c .before .match .keys7) (past (rulesBy 6) (c .before .before .args .k) (omega (arith, c .match5 .rest)))
 
+returns-19 : tie.Need-returns-19
+returns-19 c = rw (c .before .match .keys8, c .match6 .keys4)
+
 returns-20 : tie.Need-returns-20
 returns-20 c = rw (c .before .match .keys8) (past (rulesBy 7) (c .before .before .args .k) (omega (arith, c .match6 .rest)))
 
@@ -30,4 +33,4 @@ own-rule-spec =
     (tie.spec
     (λ c. search needs) returns-2 (λ c. search needs) (λ c. search needs) (λ c. search needs) (λ c. search needs) returns-7 (λ c. search needs)
     (λ c. search needs) (λ c. search needs) returns-11 (λ c. search needs) (λ c. search needs) (λ c. search needs) returns-15 (λ c. search needs)
-    (λ c. search needs) (λ c. search needs) (λ c. search needs) returns-20 returns-21)
+    (λ c. search needs) (λ c. search needs) returns-19 returns-20 returns-21)

@@ -3,11 +3,12 @@ use Prim.Native.Nat.{_≤_, _+_, _-_}
 use mathlib.Core.Path.{_≡_, refl}
 use native.Mathlib.Omega.{arith}
 use borrow.Author.Needs.{needs}
+use Rattle.meaning.specs.Run.{mostBlocks}
 use Rattle.placing.specs.declared.Phase.the-variants as phase
 use Rattle.walking.proofs.close_open.Statement.{statement}
 use Rattle.walking.proofs.close_open.Tie as tie
 
-counted : (c : tie.Start) → c .args .r .phase ≡ phase.InBlock → (c .args .blocks ≡ c .pre .before + 1) × (c .args .blocks ≤ 200)
+counted : (c : tie.Start) → c .args .r .phase ≡ phase.InBlock → (c .args .blocks ≡ c .pre .before + 1) × (c .args .blocks ≤ mostBlocks)
 counted c at = rw at at (c .pre .count)
 
 sub-k : tie.Need-sub-k
