@@ -60,8 +60,8 @@ module _ {s : List ℕ} {at end next n : ℕ} {q : run.Reading} {f : Found} (t :
   pub refuses : (number : ℕ) → readLine q line ≡ Refuse number → f ≡ Met (Refuse number) q (n + 1) rest
   refuses number e = sym (rw e at turned)
 
-  pub opens-block : (r : run.Reading) → readLine q line ≡ Open r → f ≡ Met (Open r) q (n + 1) rest
-  opens-block r e = sym (rw e at turned)
+  pub opens-block : (read name : List ℕ) → name ≡ read → readLine q line ≡ Open (openedIn q read) → f ≡ Met (Open (openedIn q name)) q (n + 1) rest
+  opens-block read name same e = sym (rw (e, ← same) at turned)
 
   pub ends-deck : (τ : Time) → readLine q line ≡ End τ → f ≡ Met (End τ) q (n + 1) rest
   ends-deck τ e = sym (rw e at turned)

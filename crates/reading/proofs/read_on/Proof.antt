@@ -171,7 +171,7 @@ returns-5 c =
     let at = line-named (c .before .before) in
     let label = c .before .before .read-name in
     let good = name-good (stood at) _ (sym (label .ensures .bad) ∙ c .before .if2 .left) in
-    record { found = rw (label .ensures .same (c .before .if2 .left)) (opens-block (turn at) _ (named (c .before .before) ∙ good)); onward = onward at event.Opened _ (label .ensures .short) }
+    record { found = opens-block (turn at) _ _ (label .ensures .same (c .before .if2 .left)) (named (c .before .before) ∙ good); onward = onward at event.Opened _ (label .ensures .short) }
 
 same-length-6 : tie.Need-same-length-6 Inv-loop μ-loop Inv-line μ-line
 same-length-6 c = c .before .before .before .before .before .before .before .before .before .before .before .before .line .inv .long
