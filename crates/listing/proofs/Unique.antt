@@ -2,18 +2,8 @@
 use mathlib.Core.Path.{_≡_}
 use denote.Ref.{now}
 use Rattle.sequences.specs.Contracts.{Once}
-use Rattle.listing.proofs.write_refusal.Kinds as write-refusal
-use Rattle.listing.proofs.write_refusal.Reads as write-refusal-says
 use Rattle.listing.proofs.list_deck.Kinds as list-deck
 use Rattle.listing.proofs.list_deck.Reads as list-deck-says
-
-pub one-write-refusal : Once write-refusal.ps write-refusal.r write-refusal-says.Post (λ κs x y e f. (x ≡ y) × (now (e .0) ≡ now (f .0)))
-one-write-refusal κs a x y e f p q =
-    let one = p .place in
-    let other = q .place in
-    let bytes = p .bytes in
-    let others = q .bytes in
-    (cc, cc)
 
 pub one-list-deck : Once list-deck.ps list-deck.r list-deck-says.Post (λ κs x y e f. (x ≡ y) × (now (e .1 .0) ≡ now (f .1 .0)))
 one-list-deck κs a x y e f p q =

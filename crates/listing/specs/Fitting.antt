@@ -21,10 +21,10 @@ use Rattle.meaning.specs.Run.{Head, Faulty, Skipped, Holds, headOf, Reading, Be
 use Rattle.limits.specs.Within as limits
 use Rattle.routing.specs.Lengths.{length-routed}
 use Rattle.results.specs.Records.{Each, each-more}
-use Rattle.listing.specs.Sizes.{mostBlocks}
-use Rattle.listing.specs.Trim.{name-sound}
-use Rattle.listing.specs.Listed.{Fits, fits}
 use Rattle.closing.specs.Sizes.{area-after}
+use Rattle.printing.specs.Trim.{name-sound}
+use Rattle.printing.specs.Listed.{Fits, fits}
+use Rattle.listing.specs.Sizes.{mostBlocks}
 
 pub record Fitting (τ : Time) (rs : List Result) : Type 0 where
   pub ordinates : τ .ordinates ≤ 300

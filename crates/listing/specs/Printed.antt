@@ -19,10 +19,10 @@ use Rattle.meaning.specs.Listing.{refusedLine, listingBy, listing}
 use Rattle.answers.specs.declared.Answer as engine
 use Rattle.answers.specs.declared.Answer.the-variants as answer
 use Rattle.answers.specs.Answers.{outcomeIs}
+use Rattle.printing.specs.Written.{Written}
+use Rattle.printing.specs.Line.{listingOf}
+use Rattle.printing.specs.Listed.{listing-of}
 use Rattle.listing.specs.Sizes.{mostBlocks, recordsSize}
-use Rattle.listing.specs.Written.{Written}
-use Rattle.listing.specs.Line.{listingOf}
-use Rattle.listing.specs.Listed.{listing-of}
 use Rattle.listing.specs.Fitting.{Fitting, done-fits}
 
 abbrev pub lentRoom : Lent

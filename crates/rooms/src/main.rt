@@ -67,8 +67,8 @@ fn put_answer(out: &mut [u8], answer: Answer) -> usize
             let end = put_number(out, second, blocks as u64);
             put_byte(out, end, b'\n')
         }
-        Answer::Refused(number, line) => listing::write_refusal(
-            &mut out[..listing::REFUSAL],
+        Answer::Refused(number, line) => printing::write_refusal(
+            &mut out[..printing::REFUSAL],
             number,
             line,
         ),

@@ -4,9 +4,9 @@ use mathlib.Core.Path.{_≡_}
 use native.Mathlib.Omega.{arith}
 use borrow.Author.Needs.{needs}
 use Rattle.meaning.specs.Listing.{listing}
+use Rattle.printing.specs.Line.{listingOf}
+use Rattle.printing.specs.Counted.{written-counted}
 use Rattle.listing.specs.Sizes.{mostBlocks}
-use Rattle.listing.specs.Line.{listingOf}
-use Rattle.listing.specs.Counted.{written-counted}
 use Rattle.listing.specs.Printed.{accepted-prints, refused-prints}
 use Rattle.listing.proofs.list_deck.Statement.{statement}
 use Rattle.listing.proofs.list_deck.Tie as tie

@@ -1,0 +1,61 @@
+-- How much room a listing takes.
+--     line-short     a line has at most lineSize bytes
+--     lines-short    and so each of the lines of some records
+--     end-short      the last line has at most endSize
+use mathlib.Core.Path.{_≡_}
+use mathlib.Core.List.{List}
+use Prim.Native.Nat.{ℕ, zero, suc, _+_, _*_, _/_, _^_, _≤_, _<_}
+use native.Mathlib.Omega.{arith}
+use lib.ListN.{length, length-append}
+use Rattle.meaning.specs.Results.{recordSize}
+use Rattle.sequences.specs.Bounds.{AllUpTo, bound-part}
+use Rattle.sequences.specs.Parts.{part, length-part}
+use Rattle.slices.specs.Bytes.{fromLittleEndian, value-below}
+use Rattle.printing.specs.Sizes.{lineSize, endSize}
+use Rattle.printing.specs.Digits.{whole-short, length-twoPlaces}
+use Rattle.printing.specs.Trim.{length-trim}
+use Rattle.printing.specs.Line.{figuresOf, lineOf, linesTo, endLine, length-figures, length-line}
+
+module _ (r : List ℕ) (bytes : AllUpTo 255 r) (long : length r ≡ recordSize) where
+  figure-below : (a n : ℕ) → a + n ≤ recordSize → fromLittleEndian (part a n r) < 256 ^ n
+  figure-below a n h =
+      let fits : a + n ≤ length r = omega arith in
+      rw (length-part a n r fits) at (value-below (part a n r) (bound-part 255 a n r bytes))
+
+  pub line-short : length (lineOf r) ≤ lineSize
+  line-short =
+      let f = figuresOf r in
+      let six : 0 + 6 ≤ length r = omega arith in
+      let name = length-trim (part 0 6 r) in
+      let kind = figure-below 6 1 (omega arith) in
+      let area = figure-below 8 4 (omega arith) in
+      let peak = figure-below 12 8 (omega arith) in
+      let interval = figure-below 20 2 (omega arith) in
+      let sum = figure-below 24 8 (omega arith) in
+      omega (
+        arith,
+        length-line r,
+        length-part 0 6 r six,
+        name,
+        length-figures f,
+        whole-short 2 (f .kind) (omega arith),
+        length-twoPlaces (f .area),
+        whole-short 7 (f .area / 100) (omega arith),
+        length-twoPlaces (f .peak),
+        whole-short 11 (f .peak / 100) (omega arith),
+        whole-short 4 (f .interval) (omega arith),
+        whole-short 19 (f .sum) (omega arith),
+      )
+
+pub lines-short : (k : ℕ) (records : List ℕ) → AllUpTo 255 records → recordSize * k ≤ length records → length (linesTo k records) ≤ lineSize * k
+lines-short zero records bytes long = omega arith
+lines-short (suc k) records bytes long =
+    let fits : recordSize * k + recordSize ≤ length records = omega arith in
+    let before : recordSize * k ≤ length records = omega arith in
+    let r = part (recordSize * k) recordSize records in
+    rw (length-append (linesTo k records) (lineOf r))
+    (omega (arith, lines-short k records bytes before, line-short r (bound-part 255 (recordSize * k) recordSize records bytes) (length-part (recordSize * k) recordSize records fits)))
+
+pub end-short : (blocks : ℕ) → blocks < 10 ^ 20 → length (endLine blocks) ≤ endSize
+unfolding endLine
+end-short blocks h = simp length-append (omega (arith, whole-short 19 blocks h))
