@@ -13,28 +13,27 @@ use Rattle.sequences.specs.Sums.{length-listFrom}
 use Rattle.meaning.specs.Words.{_=?_, _≤?_, _<?_, met, first}
 use Rattle.meaning.specs.Fields.{Fixed, fieldsOf, nameIn}
 use Rattle.meaning.specs.Lines.{linesOf}
-use Rattle.meaning.specs.Records.{Record, ID, IT, KK, KM, ZZ, Control, Of}
+use Rattle.meaning.specs.Records.{Record, ID, IT, KK, KM, ZZ, Control, Of, mostOrdinates}
 use Rattle.meaning.specs.Water.{flowLimit, plus}
 use Rattle.meaning.specs.Blocks.{Time, Block, opened, Kind, NoKind, Basin, Inflow, Confluence, Reach, kindOf, takes, Held, total, made, madeBy, reachK, reachSteps, reachX}
 use Rattle.meaning.specs.Results.{Result, peakOf}
-use Rattle.meaning.specs.Run.{Head, Faulty, Skipped, Holds, headOf, Reading, BeforeTime, BeforeBlocks, InBlock, Event, Refuse, Go, Open, End, unless, timeRefusal, timeOf, nameRefusal, itemRefusal, withItem, readRecord, readBy, readLine, heldFor, heldAfter, shapeRefusal, flowRefusal, closingRefusal, Standing, nothingYet, openRefusal, withResult, closed, oneMore, Worked, Done, Step, Stop, Next, stepUnless, act, andThen, walk, worked}
+use Rattle.meaning.specs.Run.{Head, Faulty, Skipped, Holds, headOf, Reading, BeforeTime, BeforeBlocks, InBlock, Event, Refuse, Go, Open, End, unless, timeRefusal, timeOf, nameRefusal, itemRefusal, withItem, readRecord, readBy, readLine, heldFor, heldAfter, shapeRefusal, flowRefusal, closingRefusal, Standing, nothingYet, openRefusal, withResult, closed, oneMore, Worked, Done, Step, Stop, Next, stepUnless, act, andThen, walk, worked, mostBlocks}
 use Rattle.limits.specs.Within as limits
 use Rattle.routing.specs.Lengths.{length-routed}
 use Rattle.results.specs.Records.{Each, each-more}
 use Rattle.closing.specs.Sizes.{area-after}
 use Rattle.printing.specs.Trim.{name-sound}
 use Rattle.printing.specs.Listed.{Fits, fits}
-use Rattle.listing.specs.Sizes.{mostBlocks}
 
 pub record Fitting (τ : Time) (rs : List Result) : Type 0 where
-  pub ordinates : τ .ordinates ≤ 300
+  pub ordinates : τ .ordinates ≤ mostOrdinates
   pub few : length rs ≤ mostBlocks
   pub each : Each Fits rs
 
 -- FLOWS ARE SHORT: at most 300 ordinates each
 abbrev Short : List Held → Type 0
 Short [] = Unit {0}
-Short (h ∷ hs) = (length (h .flow) ≤ 300) × Short hs
+Short (h ∷ hs) = (length (h .flow) ≤ mostOrdinates) × Short hs
 
 short-drop : (n : ℕ) (hs : List Held) → Short hs → Short (drop n hs)
 short-drop zero hs p = p
@@ -46,19 +45,19 @@ length-plus [] ys = omega arith
 length-plus (x ∷ xs) [] = omega arith
 length-plus (x ∷ xs) (y ∷ ys) = omega (arith, length-plus xs ys)
 
-short-total : (n : ℕ) (hs : List Held) → Short hs → length (total (take n hs) .flow) ≤ 300
+short-total : (n : ℕ) (hs : List Held) → Short hs → length (total (take n hs) .flow) ≤ mostOrdinates
 short-total zero hs p = omega arith
 short-total (suc n) [] p = omega arith
 short-total (suc n) (h ∷ hs) p = omega (arith, length-plus (h .flow) (total (take n hs) .flow), p .0, short-total n hs (p .1))
 
-short-made : (k : Kind) (τ : Time) (b : Block) (h : Held) → τ .ordinates ≤ 300 → length (h .flow) ≤ 300 → length (madeBy k τ b h .flow) ≤ 300
+short-made : (k : Kind) (τ : Time) (b : Block) (h : Held) → τ .ordinates ≤ mostOrdinates → length (h .flow) ≤ mostOrdinates → length (madeBy k τ b h .flow) ≤ mostOrdinates
 short-made NoKind τ b h few p = p
 short-made Basin τ b h few p = let long : length (madeBy Basin τ b h .flow) ≡ τ .ordinates = length-listFrom _ 0 (τ .ordinates) in omega arith
 short-made Inflow τ b h few p = let long : length (madeBy Inflow τ b h .flow) ≡ τ .ordinates = length-listFrom _ 0 (τ .ordinates) in omega arith
 short-made Confluence τ b h few p = p
 short-made Reach τ b h few p = omega (arith, length-routed (reachSteps b) (τ .minutes) (reachK b) (reachX b) (h .flow))
 
-short-for : (τ : Time) (b : Block) (held : List Held) → τ .ordinates ≤ 300 → Short held → length (heldFor τ b held .flow) ≤ 300
+short-for : (τ : Time) (b : Block) (held : List Held) → τ .ordinates ≤ mostOrdinates → Short held → length (heldFor τ b held .flow) ≤ mostOrdinates
 unfolding made
 short-for τ b held few p = short-made (kindOf b) τ b (total (take (takes b) held)) few (short-total (takes b) held p)
 
@@ -87,7 +86,7 @@ module _ (τ : Time) (b : Block) (s : Standing) (time : limits.TimeWithin τ) (b
   areas-then : total (heldAfter τ b (s .held)) .area ≤ 999_999 * (length (s .results) + 1)
   areas-then = omega (arith, area-after τ b (s .held) (block .cards) (no-refusal .0), after .areas)
 
-  flow-short : length (heldFor τ b (s .held) .flow) ≤ 300
+  flow-short : length (heldFor τ b (s .held) .flow) ≤ mostOrdinates
   flow-short = short-for τ b (s .held) (time .few-ordinates) (after .short)
 
   result-fits : Fits result
@@ -134,7 +133,7 @@ opens-most (BeforeTime form) = omega arith
 opens-most (BeforeBlocks τ form) = omega arith
 opens-most (InBlock τ form b) = omega arith
 
-opened-stands : (r next : Reading) (s : Standing) → Stands r s → limits.ReadingWithin next → openRefusal r s ≡ 0 → s .blocks < 200 → Stands next (oneMore (closed r s))
+opened-stands : (r next : Reading) (s : Standing) → Stands r s → limits.ReadingWithin next → openRefusal r s ≡ 0 → s .blocks < mostBlocks → Stands next (oneMore (closed r s))
 opened-stands r next s st within none room =
     let a = closed-after r s st none in
     let same = closed-blocks r s in
@@ -198,9 +197,9 @@ act-done : (e : Event) (r : Reading) (s : Standing) (line : ℕ) (go : Reading �
 act-done (Refuse number) r s line go st within stays ih e = absurd (let z : _≡_ {A = ℕ} 0 1 = cc in omega arith)
 act-done (Go next) r s line go st within stays ih e = ih next s (record { reading = within; after = st .after; open′ = omega (arith, st .open′) }) e
 act-done (Open next) r s line go st within stays ih e =
-    let d = step-done (first (openRefusal r s) (met (200 ≤? s .blocks) 14)) line (Next next (oneMore (closed r s))) go e in
-    let none = neither-met (openRefusal r s) (met (200 ≤? s .blocks) 14) (d .0) in
-    ih next (oneMore (closed r s)) (opened-stands r next s st within (none .0) (leb-false 200 (s .blocks) (not-met (200 ≤? s .blocks) 13 (none .1)))) (d .1)
+    let d = step-done (first (openRefusal r s) (met (mostBlocks ≤? s .blocks) 14)) line (Next next (oneMore (closed r s))) go e in
+    let none = neither-met (openRefusal r s) (met (mostBlocks ≤? s .blocks) 14) (d .0) in
+    ih next (oneMore (closed r s)) (opened-stands r next s st within (none .0) (leb-false mostBlocks (s .blocks) (not-met (mostBlocks ≤? s .blocks) 13 (none .1)))) (d .1)
 act-done (End τ′) r s line go {τ} {rs} st within stays ih e =
     let lone = met (not (length (closed r s .held) =? 1)) 15 in
     let d = step-done (first (openRefusal r s) lone) line (Stop (Done τ′ (closed r s .results))) go e in

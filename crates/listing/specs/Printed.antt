@@ -14,19 +14,20 @@ use lib.ListN.{length, replicate}
 use Rattle.meaning.specs.Words.{_<?_, if_then_else_}
 use Rattle.meaning.specs.Blocks.{Time}
 use Rattle.meaning.specs.Results.{Result, recordSize}
-use Rattle.meaning.specs.Run.{Worked, Stopped, Done, worked, Lent, Answer, Accepted, Refused, Outcome, refused, noRoom, settled, outcome, workSize, deckSize}
+use Rattle.meaning.specs.Run.{Worked, Stopped, Done, worked, Lent, Answer, Accepted, Refused, Outcome, refused, noRoom, settled, outcome, workSize, deckSize, mostBlocks}
 use Rattle.meaning.specs.Listing.{refusedLine, listingBy, listing}
+use Rattle.meaning.specs.Records.{mostOrdinates}
 use Rattle.answers.specs.declared.Answer as engine
 use Rattle.answers.specs.declared.Answer.the-variants as answer
 use Rattle.answers.specs.Answers.{outcomeIs}
 use Rattle.printing.specs.Written.{Written}
 use Rattle.printing.specs.Line.{listingOf}
 use Rattle.printing.specs.Listed.{listing-of}
-use Rattle.listing.specs.Sizes.{mostBlocks, recordsSize}
+use Rattle.listing.specs.Sizes.{recordsSize}
 use Rattle.listing.specs.Fitting.{Fitting, done-fits}
 
 abbrev pub lentRoom : Lent
-lentRoom = record { work = workSize; ordinates = 300; records = recordsSize }
+lentRoom = record { work = workSize; ordinates = mostOrdinates; records = recordsSize }
 
 abbrev pub printedOf : Answer → List ℕ → List ℕ
 printedOf (Accepted nq blocks) records = listingOf records blocks
@@ -43,7 +44,7 @@ pub record Prints (text : List ℕ) (o : Outcome) : Type 0 where
 
 enough : (τ : Time) (rs : List Result) → Fitting τ rs → noRoom 0 τ rs lentRoom ≡ false
 unfolding noRoom
-enough τ rs f = rw (le-ltb 300 (τ .ordinates) (f .ordinates), le-ltb recordsSize (recordSize * length rs) (omega (arith, f .few)), le-ltb (length rs) 0 (omega arith))
+enough τ rs f = rw (le-ltb mostOrdinates (τ .ordinates) (f .ordinates), le-ltb recordsSize (recordSize * length rs) (omega (arith, f .few)), le-ltb (length rs) 0 (omega arith))
 
 settled-prints : (deck : List ℕ) (w : Worked) → worked deck ≡ w → Prints (listingBy w) (settled 0 lentRoom w)
 unfolding if_then_else_
@@ -66,7 +67,7 @@ run-prints deck = by-length deck (deckSize <? length deck)
 -- by the answer of the engine
 module _ (deck : List ℕ) (a : engine.Answer) {work ordinates records : List ℕ} {w q r : ℕ}
     (e : outcomeIs a work ordinates records ≡ outcome deck 0 (record { work = w; ordinates = q; records = r }))
-    (words : w ≡ workSize) (flows : q ≡ 300) (bytes : r ≡ recordsSize) where
+    (words : w ≡ workSize) (flows : q ≡ mostOrdinates) (bytes : r ≡ recordsSize) where
   prints : Prints (listing deck) (outcomeIs a work ordinates records)
   prints = rw (e, words, flows, bytes) (run-prints deck)
 

@@ -1,10 +1,8 @@
 -- How many bytes things take: the records and the listing of any deck.
 use Prim.Native.Nat.{ℕ, _+_, _*_}
 use Rattle.meaning.specs.Results.{recordSize}
+use Rattle.meaning.specs.Run.{mostBlocks}
 use Rattle.printing.specs.Sizes.{lineSize, endSize}
-
-abbrev pub mostBlocks : ℕ
-mostBlocks = 200
 
 abbrev pub recordsSize : ℕ
 recordsSize = recordSize * mostBlocks

@@ -14,7 +14,7 @@ use lib.ListN.{length, take}
 use lib.Seq.{take-at, drop-at, drop-drop}
 use Rattle.meaning.specs.Lines.{lf, blank}
 use Rattle.meaning.specs.Fields.{trimEnd, isBlank}
-use Rattle.meaning.specs.Records.{anyBlank}
+use Rattle.meaning.specs.Records.{anyBlank, mostOrdinates}
 use Rattle.meaning.specs.Water.{flowLimit}
 use Rattle.meaning.specs.Blocks.{Time, Kind, NoKind, Basin, Inflow, Confluence, Reach, kindNumber, kindOf}
 use Rattle.meaning.specs.Results.{Result, peakOf, intervalOf, sumOf, littleEndian, blanksAfter, recordSize, recordOf, recordsOf}
@@ -135,10 +135,10 @@ listing-of τ rs rest fs = rw (lines-of rs rest fs) (simp append-assoc)
 
 -- the limits that a closed block is held to
 pub fits : (r : Result) → length (r .block .name) ≤ 6 → anyBlank (r .block .name) ≡ false → r .held .area < 256 ^ 4
-    → length (r .held .flow) ≤ 300 → peakOf (r .held .flow) ≤ flowLimit → Fits r
+    → length (r .held .flow) ≤ mostOrdinates → peakOf (r .held .flow) ≤ flowLimit → Fits r
 fits r short plain area long low =
     let q = r .held .flow in
-    let times : length q * flowLimit ≤ 300 * flowLimit = mul-le-mul-right flowLimit long in
+    let times : length q * flowLimit ≤ mostOrdinates * flowLimit = mul-le-mul-right flowLimit long in
     record {
       short = short;
       plain = plain;

@@ -6,7 +6,7 @@ use borrow.Author.Needs.{needs}
 use Rattle.meaning.specs.Listing.{listing}
 use Rattle.printing.specs.Line.{listingOf}
 use Rattle.printing.specs.Counted.{written-counted}
-use Rattle.listing.specs.Sizes.{mostBlocks}
+use Rattle.meaning.specs.Run.{mostBlocks}
 use Rattle.listing.specs.Printed.{accepted-prints, refused-prints}
 use Rattle.listing.proofs.list_deck.Statement.{statement}
 use Rattle.listing.proofs.list_deck.Tie as tie
