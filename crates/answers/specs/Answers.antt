@@ -2,15 +2,16 @@
 --     answerIs, outcomeIs, lentAs     the answer, what comes back, and the lengths of what was lent
 --     answer-told                     an answer is told by what it means
 --     lacking                         whether there is too little of it
+--     zeros-refuse                    zeros in all of it are a refusal
 use Prim.Native.Nat.{ℕ, _*_}
 use mathlib.Core.Path.{_≡_}
 use mathlib.Core.Bool.{Bool, _||_}
 use mathlib.Core.List.{List}
-use lib.ListN.{length}
+use lib.ListN.{length, replicate}
 use Rattle.meaning.specs.Words.{_<?_}
 use Rattle.meaning.specs.Results.{recordSize}
 use Rattle.meaning.specs.Run as run
-use Rattle.meaning.specs.Run.{Outcome, Lent}
+use Rattle.meaning.specs.Run.{Outcome, Lent, refused}
 use Rattle.answers.specs.declared.Answer.{Answer}
 use Rattle.answers.specs.declared.Answer.the-variants as answer
 
@@ -34,3 +35,9 @@ lentAs work ordinates records = record { work = length work; ordinates = length 
 -- what was lent is too short for so many ordinates and blocks, or the named block is above the count
 abbrev pub lacking : (nq blocks named ordinates records : ℕ) → Bool
 lacking nq blocks named ordinates records = (ordinates <? nq) || (records <? recordSize * blocks) || (blocks <? named)
+
+-- zeros in each of the three are a refusal
+module _ (number line : ℕ) (words flows bytes words′ flows′ bytes′ : List ℕ) where
+  pub zeros-refuse : words′ ≡ replicate (length words) 0 → flows′ ≡ replicate (length flows) 0 → bytes′ ≡ replicate (length bytes) 0
+      → outcomeIs (answer.Refused number line) words′ flows′ bytes′ ≡ refused number line (lentAs words flows bytes)
+  zeros-refuse w f b = rw (w, f, b)

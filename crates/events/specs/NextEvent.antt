@@ -2,11 +2,13 @@
 -- what the line does, and the walk over the rest.
 --     nextEvent       the event, where the reading stood, the line's number, and the lines behind it
 --     walk-read    the walk by it
+--     unless-has, line-has    what refusals have, and every record that a line may hold, the line has
 --     found-has    what every line keeps holds where the reading comes to
-use Prim.Native.Nat.{ℕ, _+_}
+use Prim.Native.Nat.{ℕ, zero, suc, _+_}
 use mathlib.Core.Path.{_≡_, refl}
 use mathlib.Core.List.{List, [], _∷_}
-use Rattle.meaning.specs.Run.{Reading, Event, Refuse, Go, Open, End, readLine, Standing, Worked, Stopped, act, andThen, walk}
+use Rattle.meaning.specs.Records.{Record}
+use Rattle.meaning.specs.Run.{Head, Faulty, Skipped, Holds, headOf, Reading, Event, Refuse, Go, Open, End, unless, readRecord, readBy, readLine, Standing, Worked, Stopped, act, andThen, walk}
 
 pub data Found : Type 0 where
   Missing : Reading → ℕ → Found
@@ -39,6 +41,21 @@ unfolding walk nextEvent
 walk-read [] r s line = refl
 walk-read (l ∷ ls) r s line =
     walk-met (readLine r l) r s line ls (λ (next : Reading). nextEvent ls next (line + 1)) (λ (next : Reading). walk-read ls next s (line + 1))
+
+-- WHAT AN EVENT HAS, where every refusal has it: an event unless it is refused, and a line by its head
+module _ (Q : Event → Type 0) (refused : (number : ℕ) → Q (Refuse number)) where
+  pub unless-has : (number : ℕ) (e : Event) → (number ≡ 0 → Q e) → Q (unless number e)
+  unless-has zero e h = h refl
+  unless-has (suc number) e h = refused (suc number)
+
+  head-has : (r : Reading) → Q (Go r) → ((l : List ℕ) (k : Record) → Q (readRecord r l k)) → (l : List ℕ) (h : Head) → Q (readBy h r l)
+  head-has r skipped by l (Faulty number) = refused number
+  head-has r skipped by l Skipped = skipped
+  head-has r skipped by l (Holds k) = by l k
+
+  pub line-has : (r : Reading) → Q (Go r) → ((l : List ℕ) (k : Record) → Q (readRecord r l k)) → (l : List ℕ) → Q (readLine r l)
+  unfolding readLine
+  line-has r skipped by l = head-has r skipped by l (headOf l)
 
 -- WHAT EVERY LINE KEEPS: P of a reading, with Q of a line's event and the reading before it
 abbrev pub FoundHas : (Reading → Type 0) → (Event → Reading → Type 0) → Found → Type 0

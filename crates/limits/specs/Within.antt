@@ -18,10 +18,10 @@ use Rattle.meaning.specs.Words.{_=?_, if_then_else_, met}
 use Rattle.meaning.specs.Fields.{Form, fieldsOf, nameIn}
 use Rattle.meaning.specs.Records.{Item, Row, Once, Listed, table, rowOf, rulesIn, listsIn, Record, ID, IT, KK, KM, ZZ, Control, Of, Rule, ruleAt, timeRules, rulesOf, filledUp, valueFields, anyFaulty, anyOutside, valuesFrom, badName, mostOrdinates}
 use Rattle.meaning.specs.Blocks.{Time, Card, Absent, Given, isGiven, valuesOf, Block, cardOf, opened, repeated, tooMany}
-use Rattle.meaning.specs.Run.{Head, Faulty, Skipped, Holds, headOf, Reading, BeforeTime, BeforeBlocks, InBlock, Event, Refuse, Go, Open, End, unless, timeRefusal, timeOf, nameRefusal, itemValues, itemRefusal, withItem, readRecord, readBy, readLine}
+use Rattle.meaning.specs.Run.{Reading, BeforeTime, BeforeBlocks, InBlock, Event, Refuse, Go, Open, End, unless, timeRefusal, timeOf, nameRefusal, itemValues, itemRefusal, withItem, readRecord, readLine}
 use Rattle.records.specs.Blanks.{filled-long}
 use Rattle.limits.specs.Limits.{highest, lowest, values-at-most, values-at-least}
-use Rattle.events.specs.NextEvent.{Found, FoundHas, found-has, nextEvent}
+use Rattle.events.specs.NextEvent.{Found, FoundHas, found-has, nextEvent, unless-has, line-has}
 
 pub record TimeWithin (τ : Time) : Type 0 where
   pub some-minutes : 1 ≤ τ .minutes
@@ -154,8 +154,7 @@ EventWithin (Open r) = ReadingWithin r
 EventWithin (End τ) = TimeWithin τ
 
 unless-within : (number : ℕ) (e : Event) → (number ≡ 0 → EventWithin e) → EventWithin (unless number e)
-unless-within zero e f = f refl
-unless-within (suc number) e f = tt
+unless-within = unless-has EventWithin (λ (n : ℕ). tt)
 
 time-read : (fs : List (List ℕ)) → timeRefusal fs ≡ 0 → TimeWithin (timeOf fs)
 unfolding timeRefusal timeOf
@@ -202,14 +201,8 @@ record-within (InBlock τ form b) l (Of item) w =
     unless-within (itemRefusal τ b item (fieldsOf form l)) (Go (InBlock τ form (withItem item (fieldsOf form l) b)))
     (λ e. (w .0, within-item τ b item (fieldsOf form l) (item-sound τ b item (fieldsOf form l) e) (w .1)))
 
-read-within : (h : Head) (r : Reading) (l : List ℕ) → ReadingWithin r → EventWithin (readBy h r l)
-read-within (Faulty number) r l w = tt
-read-within Skipped r l w = w
-read-within (Holds k) r l w = record-within r l k w
-
 pub reading-within : (r : Reading) (l : List ℕ) → ReadingWithin r → EventWithin (readLine r l)
-unfolding readLine
-reading-within r l w = read-within (headOf l) r l w
+reading-within r l w = line-has EventWithin (λ (n : ℕ). tt) r w (λ (l : List ℕ) (k : Record). record-within r l k w) l
 
 abbrev pub FoundWithin : Found → Type 0
 FoundWithin = FoundHas ReadingWithin (λ (e : Event) (r : Reading). EventWithin e)

@@ -17,7 +17,8 @@ use Rattle.meaning.specs.Records.{Record, ID, IT, KK, KM, ZZ, Control, Of, most
 use Rattle.meaning.specs.Water.{flowLimit, plus}
 use Rattle.meaning.specs.Blocks.{Time, Block, opened, Kind, NoKind, Basin, Inflow, Confluence, Reach, kindOf, takes, Held, total, made, madeBy, reachK, reachSteps, reachX}
 use Rattle.meaning.specs.Results.{Result, peakOf}
-use Rattle.meaning.specs.Run.{Head, Faulty, Skipped, Holds, headOf, Reading, BeforeTime, BeforeBlocks, InBlock, Event, Refuse, Go, Open, End, unless, timeRefusal, timeOf, nameRefusal, itemRefusal, withItem, readRecord, readBy, readLine, heldFor, heldAfter, shapeRefusal, flowRefusal, closingRefusal, Standing, nothingYet, openRefusal, withResult, closed, oneMore, Worked, Done, Step, Stop, Next, stepUnless, act, andThen, walk, worked, mostBlocks}
+use Rattle.meaning.specs.Run.{Reading, BeforeTime, BeforeBlocks, InBlock, Event, Refuse, Go, Open, End, unless, timeRefusal, timeOf, nameRefusal, itemRefusal, withItem, readRecord, readLine, heldFor, heldAfter, shapeRefusal, flowRefusal, closingRefusal, Standing, nothingYet, openRefusal, withResult, closed, oneMore, Worked, Done, Step, Stop, Next, stepUnless, act, andThen, walk, worked, mostBlocks}
+use Rattle.events.specs.NextEvent.{unless-has, line-has}
 use Rattle.limits.specs.Within as limits
 use Rattle.routing.specs.Lengths.{length-routed}
 use Rattle.results.specs.Records.{Each, each-more}
@@ -151,8 +152,7 @@ Stays n (Open next) = Unit {0}
 Stays n (End τ) = Unit {0}
 
 unless-stays : (number n : ℕ) (e : Event) → Stays n e → Stays n (unless number e)
-unless-stays zero n e p = p
-unless-stays (suc number) n e p = tt
+unless-stays number n e p = unless-has (Stays n) (λ (m : ℕ). tt) number e (λ z. p)
 
 record-stays : (r : Reading) (l : List ℕ) (k : Record) → Stays (opens r) (readRecord r l k)
 record-stays (BeforeTime form) l ID = omega arith
@@ -177,14 +177,8 @@ record-stays (InBlock τ form b) l ZZ = tt
 record-stays (InBlock τ form b) l (Control next) = omega arith
 record-stays (InBlock τ form b) l (Of item) = unless-stays (itemRefusal τ b item (fieldsOf form l)) 1 (Go (InBlock τ form (withItem item (fieldsOf form l) b))) (omega arith)
 
-read-stays : (h : Head) (r : Reading) (l : List ℕ) → Stays (opens r) (readBy h r l)
-read-stays (Faulty number) r l = tt
-read-stays Skipped r l = omega arith
-read-stays (Holds k) r l = record-stays r l k
-
 line-stays : (r : Reading) (l : List ℕ) → Stays (opens r) (readLine r l)
-unfolding readLine
-line-stays r l = read-stays (headOf l) r l
+line-stays r l = line-has (Stays (opens r)) (λ (m : ℕ). tt) r (omega arith) (record-stays r) l
 
 -- LINE BY LINE
 step-done : (n line : ℕ) (next : Step) (go : Reading → Standing → Worked) {τ : Time} {rs : List Result} → andThen (stepUnless n line next) go ≡ Done τ rs

@@ -103,6 +103,10 @@ pub record MayFinish (r : Reading) (s : Stack) (k : ℕ) (work cards : List ℕ)
   pub held : HeldAfter k s (r .time .ordinates) work
   pub few : k ≤ 199
 
+-- by another count of the blocks before, if it is the same
+pub held-as : {s : Stack} {nq : ℕ} {w : List ℕ} (k before : ℕ) → k ≡ before → HeldAfter before s nq w → HeldAfter k s nq w
+held-as k before e h = rw e h
+
 -- and where one may be open: so many were closed before
 pub record MayClose (r : Reading) (s : Stack) (blocks : ℕ) (work cards : List ℕ) : Type 0 where
   pub ready : Ready r cards

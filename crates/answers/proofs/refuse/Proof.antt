@@ -1,5 +1,6 @@
--- Zeros in each of the three: the outcome is equal to the refusal's because each is, part by part.
+-- Zeros in each of the three, by the three calls.
 use borrow.Author.Needs.{needs}
+use Rattle.answers.specs.Answers.{zeros-refuse}
 use Rattle.answers.proofs.refuse.Statement.{statement}
 use Rattle.answers.proofs.refuse.Tie as tie
 
@@ -8,7 +9,8 @@ returns c =
     let words = c .before .before .before .before .before .before .before .before .before .before .zero-words .ensures in
     let flows = c .before .before .before .before .before .before .zero-words2 .ensures in
     let bytes = c .before .before .fill-bytes .ensures in
-    cc
+    let x = c .before .before .before .before .before .before .before .before .before .before .before .before .before .before .before .args in
+    zeros-refuse (x .number) (x .line) (x .words .now) (x .flows .now) (x .bytes .now) _ _ _ words flows bytes
 
 pub refuse-spec : {M : Type 1} → statement M
 refuse-spec =

@@ -1,10 +1,11 @@
 -- In a block its promise is that of finishing the block; else nothing is done.
-use Prim.Native.Nat.{_≤_, _+_, _-_}
+use Prim.Native.Nat.{_≤_, _+_}
 use mathlib.Core.Path.{_≡_, refl}
 use native.Mathlib.Omega.{arith}
 use borrow.Author.Needs.{needs}
 use Rattle.meaning.specs.Run.{mostBlocks}
 use Rattle.placing.specs.declared.Phase.the-variants as phase
+use Rattle.walking.specs.Going.{held-as}
 use Rattle.walking.proofs.close_open.Statement.{statement}
 use Rattle.walking.proofs.close_open.Tie as tie
 
@@ -19,8 +20,7 @@ finish-block-requires c κs =
     let s = c .before .before .before .before .before .before .before .before .before in
     let at = c .before .before .before .enum-told3 .given .1 in
     let k = counted s at in
-    let e : s .args .blocks - 1 ≡ s .pre .before = omega arith in
-    record { ready = s .pre .ready; place = at; within = s .pre .within; held = rw e (s .pre .held); few = omega arith }
+    record { ready = s .pre .ready; place = at; within = s .pre .within; held = held-as _ (s .pre .before) (omega arith) (s .pre .held); few = omega arith }
 
 returns : tie.Need-returns
 returns c = rw (c .enum-told .given .1) (refl, refl, refl, refl, refl)
