@@ -1,11 +1,7 @@
 -- Two outcomes that meet a contract of this crate, as its `ensures` line has it, are equal.
-use mathlib.Core.Path.{_≡_, refl, sym, _∙_}
-use mathlib.Core.Bool.{Bool, true≢false}
-use Prim.Native.Nat.{ℕ}
+use mathlib.Core.Path.{_≡_}
 use Rattle.sequences.specs.Contracts.{Once}
-use Rattle.records.specs.declared.Field.{Field}
-use Rattle.records.specs.declared.Field.the-variants.{Faulty, Value}
-use Rattle.records.specs.Rules.{FieldIs}
+use Rattle.rules.specs.Rules.{one-field}
 use Rattle.records.proofs.start_of.Kinds as start-of
 use Rattle.records.proofs.start_of.Reads as start-of-says
 use Rattle.records.proofs.way_of.Kinds as way-of
@@ -20,12 +16,6 @@ use Rattle.records.proofs.place_of.Kinds as place-of
 use Rattle.records.proofs.place_of.Reads as place-of-says
 use Rattle.records.proofs.field_at.Kinds as field-at
 use Rattle.records.proofs.field_at.Reads as field-at-says
-
-one-field : (faulty outside : Bool) (value : ℕ) (x y : Field) → FieldIs x faulty outside value → FieldIs y faulty outside value → x ≡ y
-one-field faulty outside value Faulty Faulty p q = refl
-one-field faulty outside value Faulty (Value v out) p q = absurd (true≢false (sym p ∙ q .0))
-one-field faulty outside value (Value v out) Faulty p q = absurd (true≢false (sym q ∙ p .0))
-one-field faulty outside value (Value v out) (Value w other) p q = rw (p .1, p .2, q .1, q .2)
 
 pub one-start-of : Once start-of.ps start-of.r start-of-says.Post (λ κs x y e f. x ≡ y)
 one-start-of κs a x y e f p q = cc

@@ -1,7 +1,6 @@
 -- The table of records, as the code has it, and what its rules make of blank fields.
 pub mod Tables
 pub mod Rows
-pub mod Rules
+pub mod OwnRules
 pub mod Keys
-pub mod Words
 pub mod Blanks

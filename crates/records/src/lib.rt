@@ -1,17 +1,14 @@
 // The table of records, as the code has it: a place for each record, the region of the open block's words that its values have, how it stands, its identifier,
 // and the rules of its fields. A further record is one entry more in each table here, and its rules.
-mod words;
-
 ghost use mathlib.Core.Path.{_≡_};
-ghost use mathlib.Core.Bool.{not};
 ghost use Prim.Native.Nat.{_≤_, _<_};
-ghost use Rattle.meaning.specs.Words.{_=?_};
-ghost use Rattle.meaning.specs.Records.{rowOf, ruleAt, isMalformed, isOutside, unitsOf, faultyField, outsideField, valueOf};
-ghost use Rattle.numbers.specs.Reading.{valueIs};
+ghost use Rattle.meaning.specs.Records.{rowOf, ruleAt, faultyField, outsideField, valueOf};
 ghost use Rattle.records.specs.Rows.{items, fieldRow, rulesBy, start, wayIn, spanIn, spanBy, mostBy};
-ghost use Rattle.records.specs.Rules.{ruleBy, ownRule, FieldIs, WordIs, FewPlaces};
+ghost use Rattle.rules.specs.Rules.{ruleBy, FieldIs};
+ghost use Rattle.records.specs.OwnRules.{ownRule};
 ghost use Rattle.records.specs.Keys.{keyIn, placeOf};
-use numbers::Value;
+use rules::Field;
+use rules::Rule;
 
 // The records that a block holds, each by its place in the table of records.
 pub const BA: usize = 0;
@@ -116,15 +113,6 @@ pub fn place_of(key: u64) -> usize
     i
 }
 
-// What a field may hold: nothing; anything, since it is not read; a number with so many places, from a lowest to a highest value; or a word of so many characters,
-// likewise, behind the number by which another one is refused.
-pub enum Rule {
-    Unnamed,
-    NotRead,
-    Limited(u64, u64, u64),
-    Worded(u64, u64, u64, u64),
-}
-
 // The rule of field `k` of a record, from 0, or of the values that it lists. A match and no table, since it is asked for every field.
 fn own_rule(item: usize, k: usize) -> Rule
     ensures { λ r. ⌜ ruleBy r ≡ ownRule (fieldRow item) k ⌝ }
@@ -174,76 +162,9 @@ fn rule_at(item: usize, k: usize) -> Rule
     own_rule(item, k)
 }
 
-// What a field holds by its rule: a fault (refusal 6), or a value and whether it is outside its limits (refusal 7).
-pub enum Field {
-    Faulty,
-    Value(u64, bool),
-}
-
-// A value, by the limits of its field.
-fn limit_value(v: Value, low: u64, high: u64) -> Field
-    ensures { λ r. ⌜ FieldIs r (isMalformed (valueIs v)) (isOutside low high (valueIs v)) (unitsOf (valueIs v)) ⌝ }
-{
-    match v {
-        Value::Malformed => Field::Faulty,
-        Value::Negative => Field::Value(0, true),
-        Value::Units(u) => {
-            if u < low {
-                return Field::Value(u, true);
-            }
-            Field::Value(u, high < u)
-        }
-    }
-}
-
-// Another word than may stand in a field, refused by 6, or else by 7.
-fn other_word(refusal: u64) -> Field
-    ensures { λ r. ⌜ FieldIs r (refusal =? 6) (not (refusal =? 6)) 0 ⌝ }
-{
-    if refusal == 6 {
-        return Field::Faulty;
-    }
-    Field::Value(0, true)
-}
-
-// A word, by the limits of its field.
-fn limit_word(v: Value, refusal: u64, low: u64, high: u64) -> Field
-    ensures { λ r. ⌜ WordIs r refusal low high (valueIs v) ⌝ }
-{
-    match limit_value(v, low, high) {
-        Field::Faulty => other_word(refusal),
-        Field::Value(u, outside) => {
-            if outside {
-                return other_word(refusal);
-            }
-            Field::Value(u, false)
-        }
-    }
-}
-
-// A field, by its rule.
-fn read_field(r: Rule, f: &[u8]) -> Field
-    requires { ⌜ FewPlaces (ruleBy r) ⌝ }
-    ensures { λ x. ⌜ FieldIs x (faultyField (ruleBy r) (now (f .entry))) (outsideField (ruleBy r) (now (f .entry))) (valueOf (ruleBy r) (now (f .entry))) ⌝ }
-{
-    match r {
-        Rule::Unnamed => {
-            if 0 < f.len() {
-                return Field::Faulty;
-            }
-            Field::Value(0, false)
-        }
-        Rule::NotRead => Field::Value(0, false),
-        Rule::Limited(places, low, high) => limit_value(numbers::read_value(f, places), low, high),
-        Rule::Worded(refusal, most, low, high) => {
-            limit_word(words::read_word(f, most), refusal, low, high)
-        }
-    }
-}
-
 // Field `k` of a record, counted from 0.
 pub fn field_at(item: usize, k: usize, f: &[u8]) -> Field
     ensures { λ x. ⌜ FieldIs x (faultyField (ruleAt (rulesBy item) k) (now (f .entry))) (outsideField (ruleAt (rulesBy item) k) (now (f .entry))) (valueOf (ruleAt (rulesBy item) k) (now (f .entry))) ⌝ }
 {
-    read_field(rule_at(item, k), f)
+    rules::read_field(rule_at(item, k), f)
 }

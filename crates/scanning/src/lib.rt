@@ -11,7 +11,7 @@ ghost use Rattle.scanning.specs.Pass.{kept, noted};
 ghost use Rattle.scanning.specs.Scans.{scannedOf, blankBy};
 ghost use Rattle.scanning.specs.FieldsLeft.{leftBy, blankSpan, nextSpan};
 use fields::Span;
-use records::Field;
+use rules::Field;
 
 // What a pass over a line's fields keeps beside their values: the place of the last field that is not blank, from 1, and whether a value is outside its limits.
 pub struct Scan {

@@ -1,6 +1,6 @@
 -- The rule of the table, and the field by it; every rule of the table allows few places.
 use borrow.Author.Needs.{needs}
-use Rattle.records.specs.Rules.{few-places}
+use Rattle.records.specs.OwnRules.{few-places}
 use Rattle.records.proofs.field_at.Statement.{statement}
 use Rattle.records.proofs.field_at.Tie as tie
 

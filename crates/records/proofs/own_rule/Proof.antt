@@ -2,7 +2,7 @@
 use native.Mathlib.Omega.{arith}
 use borrow.Author.Needs.{needs}
 use Rattle.records.specs.Rows.{rulesBy}
-use Rattle.records.specs.Rules.{past, no-rule}
+use Rattle.records.specs.OwnRules.{past, no-rule}
 use Rattle.records.proofs.own_rule.Statement.{statement}
 use Rattle.records.proofs.own_rule.Tie as tie
 

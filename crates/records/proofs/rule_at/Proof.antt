@@ -1,6 +1,6 @@
 -- A line has ten fields at most.
 use mathlib.Core.Path.{_∙_}
-use Rattle.records.specs.Rules.{past-ten, within-ten}
+use Rattle.records.specs.OwnRules.{past-ten, within-ten}
 use borrow.Author.Needs.{needs}
 use Rattle.records.proofs.rule_at.Statement.{statement}
 use Rattle.records.proofs.rule_at.Tie as tie

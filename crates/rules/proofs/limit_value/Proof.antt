@@ -2,8 +2,8 @@
 use mathlib.Core.Path.{refl}
 use borrow.Author.Tests.{lt-ltb, le-ltb}
 use borrow.Author.Needs.{needs}
-use Rattle.records.proofs.limit_value.Statement.{statement}
-use Rattle.records.proofs.limit_value.Tie as tie
+use Rattle.rules.proofs.limit_value.Statement.{statement}
+use Rattle.rules.proofs.limit_value.Tie as tie
 
 returns : tie.Need-returns
 returns c = rw (c .before .before .v .given .1, lt-ltb _ _ (c .if1 .taken)) (refl, refl, refl)

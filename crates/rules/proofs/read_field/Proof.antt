@@ -7,8 +7,8 @@ use native.Mathlib.Omega.{arith}
 use lib.ListN.{length}
 use Rattle.meaning.specs.Words.{empty}
 use borrow.Author.Needs.{needs}
-use Rattle.records.proofs.read_field.Statement.{statement}
-use Rattle.records.proofs.read_field.Tie as tie
+use Rattle.rules.proofs.read_field.Statement.{statement}
+use Rattle.rules.proofs.read_field.Tie as tie
 
 filled : (f : List ℕ) → 0 < length f → not (empty f) ≡ true
 filled [] h = absurd (omega arith)

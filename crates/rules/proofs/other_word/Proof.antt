@@ -2,8 +2,8 @@
 use mathlib.Core.Path.{_≡_, refl}
 use native.Mathlib.Omega.{arith}
 use borrow.Author.Tests.{eq-eqb, ne-eqb}
-use Rattle.records.proofs.other_word.Statement.{statement}
-use Rattle.records.proofs.other_word.Tie as tie
+use Rattle.rules.proofs.other_word.Statement.{statement}
+use Rattle.rules.proofs.other_word.Tie as tie
 
 returns : tie.Need-returns
 returns c =

@@ -6,9 +6,9 @@ use native.Mathlib.Numerals.{add-one}
 use native.Mathlib.Omega.{arith}
 use lib.ListN.{length, drop, getD}
 use Rattle.slices.specs.Bytes.{few-bytes, byte-more}
-use Rattle.records.specs.Words.{spelled, spelled-more, spelled-blank, spelled-end, too-long, fits}
-use Rattle.records.proofs.words.read_word.Statement.{statement}
-use Rattle.records.proofs.words.read_word.Tie as tie
+use Rattle.rules.specs.Words.{spelled, spelled-more, spelled-blank, spelled-end, too-long, fits}
+use Rattle.rules.proofs.words.read_word.Statement.{statement}
+use Rattle.rules.proofs.words.read_word.Tie as tie
 
 abbrev Inv-loop : tie.InvT-loop
 Inv-loop f most i₀ v₀ i v = (i ≤ length f) × (length f ≤ most) × (v < 256 ^ i) × (spelled v (drop i f) ≡ spelled 0 f)
