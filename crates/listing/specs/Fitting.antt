@@ -23,7 +23,7 @@ use Rattle.limits.specs.Within as limits
 use Rattle.routing.specs.Lengths.{length-routed}
 use Rattle.results.specs.Records.{Each, each-more}
 use Rattle.closing.specs.Sizes.{area-after}
-use Rattle.printing.specs.Trim.{name-sound}
+use Rattle.text.specs.Trim.{name-sound}
 use Rattle.printing.specs.Listed.{Fits, fits}
 
 pub record Fitting (τ : Time) (rs : List Result) : Type 0 where

@@ -20,7 +20,7 @@ use Rattle.meaning.specs.Records.{mostOrdinates}
 use Rattle.answers.specs.declared.Answer as engine
 use Rattle.answers.specs.declared.Answer.the-variants as answer
 use Rattle.answers.specs.Answers.{outcomeIs}
-use Rattle.printing.specs.Written.{Written}
+use Rattle.text.specs.Written.{Written}
 use Rattle.printing.specs.Line.{listingOf}
 use Rattle.printing.specs.Listed.{listing-of}
 use Rattle.listing.specs.Sizes.{recordsSize}

@@ -1,9 +1,5 @@
 -- What is printed of records and of a refusal, and the laws on it.
 pub mod Sizes
-pub mod Written
-pub mod Counted
-pub mod Digits
-pub mod Trim
 pub mod Line
 pub mod Listed
 pub mod Room

@@ -26,7 +26,7 @@ use Rattle.results.specs.Record.{recordBytes, record-of, length-blanksAfter}
 use Rattle.results.specs.Records.{Each, length-record}
 use Rattle.printing.specs.declared.Figures.{Figures}
 use Rattle.slices.specs.Bytes.{fromLittleEndian, read-back}
-use Rattle.printing.specs.Trim.{trim-name}
+use Rattle.text.specs.Trim.{trim-name}
 use Rattle.printing.specs.Line.{figuresOf, figuresText, lineOf, linesTo, endLine, listingOf}
 
 -- The bytes of a record behind the name.

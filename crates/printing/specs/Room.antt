@@ -11,9 +11,9 @@ use Rattle.meaning.specs.Results.{recordSize}
 use Rattle.sequences.specs.Bounds.{AllUpTo, bound-part}
 use Rattle.sequences.specs.Parts.{part, length-part}
 use Rattle.slices.specs.Bytes.{fromLittleEndian, value-below}
+use Rattle.text.specs.Digits.{whole-short, length-twoPlaces}
+use Rattle.text.specs.Trim.{length-trim}
 use Rattle.printing.specs.Sizes.{lineSize, endSize}
-use Rattle.printing.specs.Digits.{whole-short, length-twoPlaces}
-use Rattle.printing.specs.Trim.{length-trim}
 use Rattle.printing.specs.Line.{figuresOf, lineOf, linesTo, endLine, length-figures, length-line}
 
 module _ (r : List ℕ) (bytes : AllUpTo 255 r) (long : length r ≡ recordSize) where

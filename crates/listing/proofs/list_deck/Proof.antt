@@ -5,7 +5,7 @@ use native.Mathlib.Omega.{arith}
 use borrow.Author.Needs.{needs}
 use Rattle.meaning.specs.Listing.{listing}
 use Rattle.printing.specs.Line.{listingOf}
-use Rattle.printing.specs.Counted.{written-counted}
+use Rattle.text.specs.Counted.{written-counted}
 use Rattle.meaning.specs.Run.{mostBlocks}
 use Rattle.listing.specs.Printed.{accepted-prints, refused-prints}
 use Rattle.listing.proofs.list_deck.Statement.{statement}

@@ -1,7 +1,7 @@
 -- One figure behind another. What is written so far and what is still to be written are together the line's text, for which there is room.
 use native.Mathlib.Omega.{arith}
+use Rattle.text.specs.Written.{written-more}
 use Rattle.printing.specs.Line.{figuresText, length-figures}
-use Rattle.printing.specs.Written.{written-more}
 use borrow.Author.Needs.{needs}
 use Rattle.printing.proofs.write_figures.Statement.{statement}
 use Rattle.printing.proofs.write_figures.Tie as tie

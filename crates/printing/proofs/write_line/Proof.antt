@@ -2,8 +2,8 @@
 use mathlib.Core.Path.{ap}
 use native.Mathlib.Omega.{arith}
 use lib.ListN.{length}
+use Rattle.text.specs.Written.{written-more}
 use Rattle.printing.specs.Line.{figuresText, lineOf, length-line}
-use Rattle.printing.specs.Written.{written-more}
 use borrow.Author.Needs.{needs}
 use Rattle.printing.proofs.write_line.Statement.{statement}
 use Rattle.printing.proofs.write_line.Tie as tie

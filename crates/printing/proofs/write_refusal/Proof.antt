@@ -1,8 +1,8 @@
 -- The word, the two numbers and the line's end, one behind another. A number has at most 20 digits.
 use native.Mathlib.Omega.{arith}
 use Rattle.meaning.specs.Listing.{refusedLine}
-use Rattle.printing.specs.Digits.{whole-short}
-use Rattle.printing.specs.Written.{written-more}
+use Rattle.text.specs.Digits.{whole-short}
+use Rattle.text.specs.Written.{written-more}
 use borrow.Author.Needs.{needs}
 use Rattle.printing.proofs.write_refusal.Statement.{statement}
 use Rattle.printing.proofs.write_refusal.Tie as tie

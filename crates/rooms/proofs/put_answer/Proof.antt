@@ -3,7 +3,7 @@ use mathlib.Core.Path.{sym}
 use native.Mathlib.Omega.{arith}
 use lib.ListN.{length-take}
 use lib.Seq.{length-take-le}
-use Rattle.printing.specs.Counted.{written-counted}
+use Rattle.text.specs.Counted.{written-counted}
 use borrow.Author.Needs.{needs}
 use Rattle.rooms.proofs.put_answer.Statement.{statement}
 use Rattle.rooms.proofs.put_answer.Tie as tie

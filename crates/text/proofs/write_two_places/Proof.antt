@@ -3,11 +3,11 @@ use Prim.Native.Nat.{_/_, _%_}
 use mathlib.Core.Path.{_≡_}
 use native.Mathlib.Omega.{arith}
 use Rattle.meaning.specs.Listing.{digit, twoPlaces}
-use Rattle.printing.specs.Digits.{length-twoPlaces}
-use Rattle.printing.specs.Written.{written-more}
+use Rattle.text.specs.Digits.{length-twoPlaces}
+use Rattle.text.specs.Written.{written-more}
 use borrow.Author.Needs.{needs}
-use Rattle.printing.proofs.write_two_places.Statement.{statement}
-use Rattle.printing.proofs.write_two_places.Tie as tie
+use Rattle.text.proofs.write_two_places.Statement.{statement}
+use Rattle.text.proofs.write_two_places.Tie as tie
 
 write-whole-requires : tie.Need-write-whole-requires
 write-whole-requires c κs = omega (arith, length-twoPlaces (c .before .before .args .x))

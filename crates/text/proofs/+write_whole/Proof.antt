@@ -2,18 +2,18 @@
 use mathlib.Core.Path.{ap, _∙_}
 use native.Mathlib.Omega.{arith}
 use lib.ListN.{length}
-use Rattle.printing.specs.Digits.{whole-small, whole-more, whole-longer}
-use Rattle.printing.specs.Written.{written-more}
+use Rattle.text.specs.Digits.{whole-small, whole-more, whole-longer}
+use Rattle.text.specs.Written.{written-more}
 use Prim.Native.Nat.{ℕ, _<_}
 use borrow.Fn.Kinds.{In}
 use borrow.Fn.PlainCycle.{Measures, is, falls, and}
-use Rattle.printing.proofs.write_whole.Reads as write-whole
-use Rattle.printing.proofs.write_whole.Kinds as write-whole-kinds
-use Rattle.printing.proofs.+write_whole.Lts-write_whole as write-whole-lts
-use Rattle.printing.proofs.digit_of.Reads as digit-of-reads
-use Rattle.printing.proofs.write_byte.Reads as write-byte-reads
-use Rattle.printing.proofs.+write_whole.{statement}
-use Rattle.printing.proofs.+write_whole.Tie.{close}
+use Rattle.text.proofs.write_whole.Reads as write-whole
+use Rattle.text.proofs.write_whole.Kinds as write-whole-kinds
+use Rattle.text.proofs.+write_whole.Lts-write_whole as write-whole-lts
+use Rattle.text.proofs.digit_of.Reads as digit-of-reads
+use Rattle.text.proofs.write_byte.Reads as write-byte-reads
+use Rattle.text.proofs.+write_whole.{statement}
+use Rattle.text.proofs.+write_whole.Tie.{close}
 
 abbrev μ-write-whole : Measures 1 write-whole-kinds.ps ℕ
 μ-write-whole κs a = a .1 .1 .0

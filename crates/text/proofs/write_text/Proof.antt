@@ -1,8 +1,8 @@
 -- The text is what `copy` leaves in the part from the place on.
-use Rattle.printing.specs.Written.{written-copy}
+use Rattle.text.specs.Written.{written-copy}
 use borrow.Author.Needs.{needs}
-use Rattle.printing.proofs.write_text.Statement.{statement}
-use Rattle.printing.proofs.write_text.Tie as tie
+use Rattle.text.proofs.write_text.Statement.{statement}
+use Rattle.text.proofs.write_text.Tie as tie
 
 returns : tie.Need-returns
 returns c =

@@ -5,9 +5,9 @@ use native.Mathlib.Omega.{arith}
 use lib.ListN.{length, take}
 use lib.Seq.{take-length, length-take-le}
 use Rattle.meaning.specs.Fields.{trimEnd, isBlank}
-use Rattle.printing.specs.Trim.{trim-on, trim-stop, trim-none}
-use Rattle.printing.proofs.trim_blanks.Statement.{statement}
-use Rattle.printing.proofs.trim_blanks.Tie as tie
+use Rattle.text.specs.Trim.{trim-on, trim-stop, trim-none}
+use Rattle.text.proofs.trim_blanks.Statement.{statement}
+use Rattle.text.proofs.trim_blanks.Tie as tie
 
 abbrev Inv-loop : tie.InvT-loop
 Inv-loop s n₀ n = (n ≤ length s) × (trimEnd isBlank (take n s) ≡ trimEnd isBlank s)

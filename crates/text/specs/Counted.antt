@@ -6,7 +6,7 @@ use mathlib.Core.List.{List}
 use Prim.Native.Nat.{ℕ, _≤_}
 use native.Mathlib.Omega.{arith}
 use lib.ListN.{length, take, length-take}
-use Rattle.printing.specs.Written.{Written, written-text}
+use Rattle.text.specs.Written.{Written, written-text}
 
 pub record Counted (n : ℕ) (bytes : List ℕ) : Type 0 where
   pub within : n ≤ length bytes

@@ -1,8 +1,8 @@
 -- One store.
-use Rattle.printing.specs.Written.{written-byte}
+use Rattle.text.specs.Written.{written-byte}
 use borrow.Author.Needs.{needs}
-use Rattle.printing.proofs.write_byte.Statement.{statement}
-use Rattle.printing.proofs.write_byte.Tie as tie
+use Rattle.text.proofs.write_byte.Statement.{statement}
+use Rattle.text.proofs.write_byte.Tie as tie
 
 returns : tie.Need-returns
 returns c = written-byte (c .args .out .now) (c .args .at) (c .args .b) (c .pre)

@@ -1,9 +1,9 @@
 -- The blank, and the hundredths behind it.
-use Rattle.printing.specs.Written.{written-more}
+use Rattle.text.specs.Written.{written-more}
 use native.Mathlib.Omega.{arith}
 use borrow.Author.Needs.{needs}
-use Rattle.printing.proofs.write_amount.Statement.{statement}
-use Rattle.printing.proofs.write_amount.Tie as tie
+use Rattle.text.proofs.write_amount.Statement.{statement}
+use Rattle.text.proofs.write_amount.Tie as tie
 
 returns : tie.Need-returns
 returns c = written-more (omega arith) (c .before .before .before .before .before .before .write-byte .ensures) (c .before .before .write-two-places .ensures)
