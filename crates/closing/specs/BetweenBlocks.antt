@@ -19,10 +19,11 @@ use Rattle.stack.specs.View.{Fits, view, noneHeld, length-held}
 use Rattle.stack.specs.Limits.{Within}
 use Rattle.results.specs.Records.{Named, Each, each-more, recordsIn, no-records, record-more}
 use Rattle.making.specs.Made.{HeldWithin}
-use Rattle.closing.specs.declared.Closed.{Closed}
-use Rattle.closing.specs.LastHeld.{view-last}
+use Rattle.telling.specs.declared.Closed.{Closed}
+use Rattle.telling.specs.LastHeld.{view-last}
+use Rattle.telling.specs.WrittenResult.{recordTold, recordPut, copiedFirst, copiedNamed}
 use Rattle.closing.specs.ClosedBlock.{Keeps, Closes}
-use Rattle.closing.specs.WrittenResult.{recordTold, recordPut, copiedFirst, copiedNamed, resultOf, told-record, told-flow}
+use Rattle.closing.specs.ToldResult.{resultOf, told-record, told-flow}
 use Rattle.closing.specs.NamedOrdinates.{named-last, ordinatesFor, ordinates-given, none-named, not-yet-closed, copied-zeros, ordinates-more}
 
 -- WHAT IS CARRIED. n ordinates and m bytes of records are lent; without room for the records so far nothing is known of these.

@@ -22,11 +22,11 @@ use Rattle.stack.specs.View.{view, length-held}
 use Rattle.stack.specs.Limits.{Within}
 use Rattle.results.specs.declared.Summary.{Summary}
 use Rattle.results.specs.Summary.{summaryOf}
-use Rattle.closing.specs.declared.Closed.{Closed}
 use Rattle.shaping.specs.Limits.{CardsWithin}
 use Rattle.shaping.specs.Shapes.{takes-by, shaped-passes}
 use Rattle.making.specs.Made.{stackBy, wordsBy, Makes}
-use Rattle.closing.specs.LastHeld.{Last, view-last}
+use Rattle.telling.specs.declared.Closed.{Closed}
+use Rattle.telling.specs.LastHeld.{Last, view-last}
 use Rattle.closing.specs.Sizes.{area-after, flow-within, within-after}
 
 abbrev pub refusedBlock : ℕ → Stack → Closed

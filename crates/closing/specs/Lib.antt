@@ -1,7 +1,6 @@
--- What closing a block leaves, what is written of it, what the run carries from block to block, and the laws of all three.
-pub mod LastHeld
+-- What closing a block leaves, that what is told of it is its result, what the run carries from block to block, and the laws of all three.
 pub mod Sizes
 pub mod ClosedBlock
-pub mod WrittenResult
+pub mod ToldResult
 pub mod NamedOrdinates
 pub mod BetweenBlocks

@@ -22,9 +22,9 @@ use Rattle.placing.specs.Readings.{readingIs, Ready, blockIs}
 use Rattle.stack.specs.declared.Stack.{Stack}
 use Rattle.stack.specs.View.{view}
 use Rattle.walking.specs.declared.Finished.{Finished}
-use Rattle.closing.specs.declared.Closed.{Closed}
+use Rattle.telling.specs.declared.Closed.{Closed}
+use Rattle.telling.specs.WrittenResult.{recordTold, recordPut, copiedNamed}
 use Rattle.closing.specs.ClosedBlock.{Closes}
-use Rattle.closing.specs.WrittenResult.{recordTold, recordPut, copiedNamed}
 use Rattle.closing.specs.BetweenBlocks.{Carried, HeldAfter}
 use Rattle.walking.specs.declared.State.{State}
 use Rattle.walking.specs.declared.Worked.{Worked}

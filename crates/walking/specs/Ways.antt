@@ -28,8 +28,8 @@ use Rattle.placing.specs.Readings.{readingIs, readingBy, timeIn, formIn, Ready,
 use Rattle.stack.specs.declared.Stack.{Stack}
 use Rattle.stack.specs.View.{view, length-held}
 use Rattle.walking.specs.declared.Finished.{Finished}
-use Rattle.closing.specs.LastHeld.{view-last}
-use Rattle.closing.specs.WrittenResult.{copiedFirst}
+use Rattle.telling.specs.LastHeld.{view-last}
+use Rattle.telling.specs.WrittenResult.{copiedFirst}
 use Rattle.closing.specs.BetweenBlocks.{Carried, carried-named, carried-last}
 use Rattle.walking.specs.declared.State.{State}
 use Rattle.walking.specs.declared.Turn.{Turn}

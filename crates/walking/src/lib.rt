@@ -73,7 +73,7 @@ fn finish_block(
     }
     let name = r.name;
     let nq = time.ordinates;
-    closing::write_result(name, closed, k, named, nq, work, ordinates, records);
+    telling::write_result(name, closed, k, named, nq, work, ordinates, records);
     Finished {
         refusal,
         held: next,

@@ -17,7 +17,7 @@ use Rattle.blocks.specs.Values.{values-few}
 use Rattle.stack.specs.View.{Fits, view}
 use Rattle.results.specs.declared.Summary.{Summary}
 use Rattle.results.specs.Summary.{summaryOf}
-use Rattle.closing.specs.LastHeld.{Last}
+use Rattle.telling.specs.LastHeld.{Last}
 use Rattle.closing.specs.ClosedBlock.{closes-by-shape, made-last, made-deep, made-within, closes-by-flow, closes-held}
 use Rattle.closing.proofs.close_block.Statement.{statement}
 use Rattle.closing.proofs.close_block.Tie as tie

@@ -1,10 +1,10 @@
--- `closing::summarize_last` meets its contract: the part lent is the words of the last place.
+-- `telling::summarize_last` meets its contract: the part lent is the words of the last place.
 use native.Mathlib.Omega.{arith}
 use borrow.Author.Needs.{needs}
 use Rattle.results.specs.Summary.{summaryOf}
-use Rattle.closing.specs.LastHeld.{lent-by, lent-up}
-use Rattle.closing.proofs.summarize_last.Statement.{statement}
-use Rattle.closing.proofs.summarize_last.Tie as tie
+use Rattle.telling.specs.LastHeld.{lent-by, lent-up}
+use Rattle.telling.proofs.summarize_last.Statement.{statement}
+use Rattle.telling.proofs.summarize_last.Tie as tie
 
 summarize-requires : tie.Need-summarize-requires
 summarize-requires c κs =
