@@ -15,45 +15,12 @@ const RECORDS: usize = 16_000;
 
 const TEXT: usize = 21 * (ORDINATES + RECORDS) + 76;
 
-fn put_byte(out: &mut [u8], at: usize, b: u8) -> usize
-    requires { ⌜ at < length (now out) ⌝ }
-    ensures { λ r. ⌜ r ≡ at + 1 ⌝ }
-{
-    out[at] = b;
-    at + 1
-}
-
-fn put_text(out: &mut [u8], at: usize, text: &[u8]) -> usize
-    requires { ⌜ at + length (now text) ≤ length (now out) ⌝ }
-    ensures { λ r. ⌜ r ≡ at + length (now (text .entry)) ⌝ }
-{
-    at + bytes::copy(text, &mut out[at..])
-}
-
-// The digits of a number at the end of the slice, the last one last; answers where they begin.
-fn spell(x: u64, digits: &mut [u8]) -> usize
-    ensures { λ r. ⌜ r ≤ length (now (digits .exit)) ⌝ }
-{
-    let mut rest = x;
-    let mut i = digits.len();
-    while 0 < i {
-        i -= 1;
-        digits[i] = b'0' + (rest % 10) as u8;
-        rest /= 10;
-        if rest == 0 {
-            return i;
-        }
-    }
-    i
-}
-
+// A number has at most 20 digits.
 fn put_number(out: &mut [u8], at: usize, x: u64) -> usize
     requires { ⌜ at + 20 ≤ length (now out) ⌝ }
     ensures { λ r. ⌜ r ≤ at + 20 ⌝ }
 {
-    let mut digits = [0u8; 20];
-    let first = spell(x, &mut digits);
-    put_text(out, at, &digits[first..])
+    text::write_whole(out, at, x)
 }
 
 fn put_answer(out: &mut [u8], answer: Answer) -> usize
@@ -63,9 +30,9 @@ fn put_answer(out: &mut [u8], answer: Answer) -> usize
     match answer {
         Answer::Accepted(ordinates, blocks) => {
             let blank = put_number(out, 0, ordinates as u64);
-            let second = put_byte(out, blank, b' ');
+            let second = text::write_byte(out, blank, b' ');
             let end = put_number(out, second, blocks as u64);
-            put_byte(out, end, b'\n')
+            text::write_byte(out, end, b'\n')
         }
         Answer::Refused(number, line) => printing::write_refusal(
             &mut out[..printing::REFUSAL],
@@ -83,7 +50,7 @@ fn put_gap(out: &mut [u8], at: usize, i: usize) -> usize
     if i == 0 {
         return at;
     }
-    put_byte(out, at, b' ')
+    text::write_byte(out, at, b' ')
 }
 
 fn hex_digit(d: u8) -> u8
@@ -96,8 +63,8 @@ fn put_hex(out: &mut [u8], at: usize, b: u8) -> usize
     requires { ⌜ at + 2 ≤ length (now out) ⌝ }
     ensures { λ r. ⌜ r ≡ at + 2 ⌝ }
 {
-    let low = put_byte(out, at, hex_digit(b / 16));
-    put_byte(out, low, hex_digit(b % 16))
+    let low = text::write_byte(out, at, hex_digit(b / 16));
+    text::write_byte(out, low, hex_digit(b % 16))
 }
 
 // What stands at place `i` of the results, the ordinates and the record bytes behind them: an ordinate in decimal, or a byte in hex.
@@ -130,7 +97,7 @@ fn put_line(
         at = put_item(out, at, i, ordinates, records);
         i += 1;
     }
-    put_byte(out, at, b'\n')
+    text::write_byte(out, at, b'\n')
 }
 
 fn count_left(words: &[u64]) -> u64 {
@@ -160,8 +127,8 @@ fn put_case(
     let hex = put_line(out, flows, 0, ordinates.len(), ordinates, records);
     let count = put_line(out, hex, ordinates.len(), places, ordinates, records);
     let end = put_number(out, count, count_left(work));
-    let mark = put_byte(out, end, b'\n');
-    put_text(out, mark, b"--\n")
+    let mark = text::write_byte(out, end, b'\n');
+    text::write_text(out, mark, b"--\n")
 }
 
 fn run_case(deck: &[u8], named: usize, work: &mut [u64], ordinates: &mut [u64], records: &mut [u8])
