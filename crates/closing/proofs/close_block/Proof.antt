@@ -44,7 +44,8 @@ deep c = let x = entry c .args in made-deep (timeIs (x .time)) (blockOf [] (x .c
 returns : tie.Need-returns
 returns c = λ name.
     let x = c .before .before .before .before .before .before .args in
-    closes-by-shape (timeIs (x .time)) (blockOf name (x .cards .now)) (x .held) (x .work .now) _ (c .before .before .before .shape-of .ensures name .number) (c .before .if1 .taken) (c .refuse .ensures)
+    let number = c .before .before .before .shape-of .ensures name .number in
+    closes-by-shape (timeIs (x .time)) (blockOf name (x .cards .now)) (x .held) (x .work .now) _ number (c .before .if1 .taken) (c .refuse .ensures)
 
 make-requires : tie.Need-make-requires
 make-requires c κs =

@@ -21,7 +21,8 @@ hold-inflow-requires c κs =
     let s = c .before .before .before .before .before in
     let x = s .args in
     let b = blockOf [] (x .cards .now) in
-    (room-for-one {k = Inflow} (timeIs (x .time)) b _ _ refl (s .pre .1 .1 []) (s .pre .0 .fits), λ (k : ℕ). omega (arith, ap (λ (q : List ℕ). getD q k 0) (c .before .values .ensures []), s .pre .1 .0 .cards QI .high k))
+    let room = room-for-one {k = Inflow} (timeIs (x .time)) b _ _ refl (s .pre .1 .1 []) (s .pre .0 .fits) in
+    (room, λ (k : ℕ). omega (arith, ap (λ (q : List ℕ). getD q k 0) (c .before .values .ensures []), s .pre .1 .0 .cards QI .high k))
 
 returns : tie.Need-returns
 returns c = λ name.

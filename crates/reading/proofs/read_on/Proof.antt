@@ -42,7 +42,9 @@ line-again c =
     (goes (turn at) _ (line-skipped (turn at) (h .result) (h .ensures .0) (c .enum-told .given .1)))
 
 place-record-requires : tie.Need-place-record-requires Inv-loop μ-loop Inv-line μ-line
-place-record-requires c κs = (rw (c .before .before .k .given .1) at (c .before .before .before .before .head-of .ensures .1), at-line (c .before .before .before .before .before .before) .line .inv .ready .readable)
+place-record-requires c κs =
+    let head = c .before .before .before .before .head-of in
+    (rw (c .before .before .k .given .1) at (head .ensures .1), at-line (c .before .before .before .before .before .before) .line .inv .ready .readable)
 
 line-less-2 : tie.Need-line-less-2 Inv-loop μ-loop Inv-line μ-line
 line-less-2 c = let f = fair (c .before .before .before .before .before .before .before .before .before .before) in omega arith
@@ -193,7 +195,8 @@ returns-7 c =
     let named = c .before .before .before .before .before .before .before .before .before .before .named-fields in
     let fs = spanned (c .before .before .before .before .before) .fields (named .result) (more (c .before .before .before .before .before .before)) in
     let bad = fault-here (rulesBy (item-at at)) (l .i) _ _ _ (sym (c .before .before .note-field .ensures .0) ∙ c .if4 .taken) (rw fs at (l .inv .3 .faults)) in
-    let worse : anyFaulty (rulesBy (item-at at)) 0 (all-fields at) ≡ true = rw (named .ensures, c .before .before .before .before .before .before .before .before .before .first-place .ensures) at bad in
+    let first = c .before .before .before .before .before .before .before .before .before .first-place in
+    let worse : anyFaulty (rulesBy (item-at at)) 0 (all-fields at) ≡ true = rw (named .ensures, first .ensures) at bad in
     let fault = pass-fault (item-at at) (form-at (line-of at)) (text (line-of at)) worse in
     record { found = refused (line-of at) 6 (did at ∙ fault-event (item-at at) (x .r) (x .cards) _ (due at) fault); onward = tt }
 

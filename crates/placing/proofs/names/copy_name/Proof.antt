@@ -14,7 +14,9 @@ front : (n : ℕ) (f rest : List ℕ) → n ≡ length f → take n (take (lengt
 front n f rest e = rw (take-all (length f) f (le-refl (length f)), take-at f rest n (sym e))
 
 returns : tie.Need-returns
-returns c = (rw (c .before .copy .ensures .1) (front (c .before .copy .result) (c .before .before .before .before .args .f .now) _ (c .before .copy .ensures .0)), omega (arith, c .before .copy .ensures .0))
+returns c =
+    let copied = c .before .copy in
+    (rw (copied .ensures .1) (front (copied .result) (c .before .before .before .before .args .f .now) _ (copied .ensures .0)), omega (arith, copied .ensures .0))
 
 pub copy-name-spec : {M : Type 1} → statement M
 copy-name-spec = tie.close (tie.spec (λ c. search needs) (λ c κs. search needs) returns)

@@ -13,19 +13,27 @@ in-block-requires : tie.Need-in-block-requires
 in-block-requires c κs = (rw (c .before .k .given .1) at (c .before .before .before .before .pre .0), c .before .before .before .before .pre .1)
 
 returns : tie.Need-returns
-returns c = let x = c .before .before .before .before .args in rw (c .before .enum-told .given .1, c .before-time .ensures) (id-placed (timeIs (x .r .time)) (x .r .free) (nameIs (x .r .name)) (x .cards .now) (x .r .phase))
+returns c =
+    let x = c .before .before .before .before .args in
+    rw (c .before .enum-told .given .1, c .before-time .ensures) (id-placed (timeIs (x .r .time)) (x .r .free) (nameIs (x .r .name)) (x .cards .now) (x .r .phase))
 
 returns-2 : tie.Need-returns-2
-returns-2 c = let x = c .before .before .before .before .args in rw (c .before .enum-told2 .given .1, c .before-time2 .ensures) (it-placed (timeIs (x .r .time)) (x .r .free) (nameIs (x .r .name)) (x .cards .now) (x .r .phase))
+returns-2 c =
+    let x = c .before .before .before .before .args in
+    rw (c .before .enum-told2 .given .1, c .before-time2 .ensures) (it-placed (timeIs (x .r .time)) (x .r .free) (nameIs (x .r .name)) (x .cards .now) (x .r .phase))
 
 returns-3 : tie.Need-returns-3
-returns-3 c = let x = c .before .before .before .before .args in rw (c .before .enum-told3 .given .1, c .after-time .ensures) (kk-placed (timeIs (x .r .time)) (x .r .free) (nameIs (x .r .name)) (x .cards .now) (x .r .phase))
+returns-3 c =
+    let x = c .before .before .before .before .args in
+    rw (c .before .enum-told3 .given .1, c .after-time .ensures) (kk-placed (timeIs (x .r .time)) (x .r .free) (nameIs (x .r .name)) (x .cards .now) (x .r .phase))
 
 returns-4 : tie.Need-returns-4
 returns-4 c = let x = c .before .before .before .args in rw (c .enum-told4 .given .1) (km-placed (timeIs (x .r .time)) (x .r .free) (nameIs (x .r .name)) (x .cards .now) (x .r .phase))
 
 returns-5 : tie.Need-returns-5
-returns-5 c = let x = c .before .before .before .before .args in rw (c .before .enum-told5 .given .1, c .after-time2 .ensures) (zz-placed (timeIs (x .r .time)) (x .r .free) (nameIs (x .r .name)) (x .cards .now) (x .r .phase))
+returns-5 c =
+    let x = c .before .before .before .before .args in
+    rw (c .before .enum-told5 .given .1, c .after-time2 .ensures) (zz-placed (timeIs (x .r .time)) (x .r .free) (nameIs (x .r .name)) (x .cards .now) (x .r .phase))
 
 returns-6 : tie.Need-returns-6
 returns-6 c = let x = c .before .before .before .args in rw (c .enum-told6 .given .1) (control-placed (timeIs (x .r .time)) (x .r .free) (nameIs (x .r .name)) (x .cards .now) true (x .r .phase))

@@ -46,7 +46,8 @@ returns-4 c =
     let place = c .before .before .before .before .before .enum-told3 .given .1 in
     let due = rw place at (s .pre .0 .1) in
     let t = c .before .before .take-values in
-    item-line (x .r) (x .item) (scannedOf (x .values .now) (x .scan)) (x .cards .now) (c .before .before .before .before .before .before .before .if1 .left) (s .pre .0 .0) place due (t .result) (t .last .0) (t .ensures)
+    let inside = c .before .before .before .before .before .before .before .if1 .left in
+    item-line (x .r) (x .item) (scannedOf (x .values .now) (x .scan)) (x .cards .now) inside (s .pre .0 .0) place due (t .result) (t .last .0) (t .ensures)
 
 pub take-line-spec : {M : Type 1} → statement M
 take-line-spec =
