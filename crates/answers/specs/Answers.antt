@@ -2,16 +2,18 @@
 --     answerIs, outcomeIs, lentAs     the answer, what comes back, and the lengths of what was lent
 --     answer-told                     an answer is told by what it means
 --     lacking                         whether there is too little of it
+--     sizeRefusal                     what is refused for the sizes, before the deck is read
+--     settledAs                       what becomes of a deck that is sound
 --     zeros-refuse                    zeros in all of it are a refusal
 use Prim.Native.Nat.{ℕ, _*_}
 use mathlib.Core.Path.{_≡_}
 use mathlib.Core.Bool.{Bool, _||_}
 use mathlib.Core.List.{List}
 use lib.ListN.{length, replicate}
-use Rattle.meaning.specs.Words.{_<?_}
+use Rattle.meaning.specs.Words.{_<?_, if_then_else_, met, first}
 use Rattle.meaning.specs.Results.{recordSize}
 use Rattle.meaning.specs.Run as run
-use Rattle.meaning.specs.Run.{Outcome, Lent, refused}
+use Rattle.meaning.specs.Run.{Outcome, Lent, refused, workSize, deckSize}
 use Rattle.answers.specs.declared.Answer.{Answer}
 use Rattle.answers.specs.declared.Answer.the-variants as answer
 
@@ -35,6 +37,16 @@ lentAs work ordinates records = record { work = length work; ordinates = length 
 -- what was lent is too short for so many ordinates and blocks, or the named block is above the count
 abbrev pub lacking : (nq blocks named ordinates records : ℕ) → Bool
 lacking nq blocks named ordinates records = (ordinates <? nq) || (records <? recordSize * blocks) || (blocks <? named)
+
+-- 1: too few words to work in; 2: too long a deck
+abbrev pub sizeRefusal : (work deck : ℕ) → ℕ
+sizeRefusal work deck = first (met (work <? workSize) 1) (met (deckSize <? deck) 2)
+
+-- a sound deck with so many ordinates and blocks: 17, or the results as they stand, with zeros in the words that the run worked in
+abbrev pub settledAs : (nq blocks named : ℕ) (work ordinates records : List ℕ) → Outcome
+settledAs nq blocks named work ordinates records =
+    if lacking nq blocks named (length ordinates) (length records) then refused 17 0 (lentAs work ordinates records) else
+    outcomeIs (answer.Accepted nq blocks) (replicate (length work) 0) ordinates records
 
 -- zeros in each of the three are a refusal
 module _ (number line : ℕ) (words flows bytes words′ flows′ bytes′ : List ℕ) where

@@ -1,41 +1,39 @@
--- The ways through the meaning of a run, one law for each answer.
-use Prim.Native.Nat.{ℕ, _-_, _≤_, _<_}
-use mathlib.Core.Path.{_≡_}
-use mathlib.Core.Bool.{true, false}
+-- The ways through the meaning of a run, one law for each.
+--     refused-size    the sizes alone refuse it, before the deck is read
+--     settles         else it is what the work on the deck comes to; stopped: where that is a refusal
+use Prim.Native.Nat.{ℕ, zero, suc}
+use mathlib.Core.Path.{_≡_, refl, sym, _∙_}
+use mathlib.Core.Bool.{Bool, true, false}
 use mathlib.Core.List.{List}
-use borrow.Author.Tests.{lt-ltb, le-ltb}
+use native.Mathlib.Omega.{arith}
 use lib.ListN.{length}
-use Rattle.meaning.specs.Words.{if_then_else_}
-use Rattle.meaning.specs.Blocks.{Time}
-use Rattle.meaning.specs.Results.{Result}
-use Rattle.meaning.specs.Run.{Stopped, Done, worked, Lent, refused, accepted, noRoom, settled, outcome, workSize, deckSize}
+use Rattle.meaning.specs.Words.{_<?_, if_then_else_, met, first}
+use Rattle.meaning.specs.Run.{Stopped, Outcome, worked, Lent, refused, settled, outcome, workSize, deckSize}
+use Rattle.answers.specs.Answers.{sizeRefusal}
+
+-- two tests as a chain of refusals, and as choices
+module _ (lent : Lent) (o : Outcome) where
+  one-is-met : (s t : Bool) → (first (met s 1) (met t 2) ≡ 0 → ⊥) → refused (first (met s 1) (met t 2)) 0 lent ≡ (if s then refused 1 0 lent else if t then refused 2 0 lent else o)
+  unfolding if_then_else_
+  one-is-met true t h = refl
+  one-is-met false true h = refl
+  one-is-met false false h = absurd (h refl)
+
+  none-is-met : (s t : Bool) → first (met s 1) (met t 2) ≡ 0 → o ≡ (if s then refused 1 0 lent else if t then refused 2 0 lent else o)
+  unfolding if_then_else_
+  none-is-met true t h = absurd (omega arith)
+  none-is-met false true h = absurd (omega arith)
+  none-is-met false false h = refl
 
 module _ (deck : List ℕ) (named : ℕ) (lent : Lent) where
-  pub little-work : lent .work < workSize → refused 1 0 lent ≡ outcome deck named lent
-  unfolding outcome if_then_else_
-  little-work h = rw (lt-ltb (lent .work) workSize h)
+  pub refused-size : (sizeRefusal (lent .work) (length deck) ≡ 0 → ⊥) → refused (sizeRefusal (lent .work) (length deck)) 0 lent ≡ outcome deck named lent
+  unfolding outcome
+  refused-size h = one-is-met lent (settled named lent (worked deck)) (lent .work <? workSize) (deckSize <? length deck) h
 
-  module _ (enough : workSize ≤ lent .work) where
-    pub long-deck : deckSize < length deck → refused 2 0 lent ≡ outcome deck named lent
-    unfolding outcome if_then_else_
-    long-deck h = rw (le-ltb (lent .work) workSize enough, lt-ltb deckSize (length deck) h)
+  module _ (sized : sizeRefusal (lent .work) (length deck) ≡ 0) where
+    pub settles : settled named lent (worked deck) ≡ outcome deck named lent
+    unfolding outcome
+    settles = none-is-met lent (settled named lent (worked deck)) (lent .work <? workSize) (deckSize <? length deck) sized
 
-    module _ (short : length deck ≤ deckSize) where
-      settles : settled named lent (worked deck) ≡ outcome deck named lent
-      unfolding outcome if_then_else_
-      settles = rw (le-ltb (lent .work) workSize enough, le-ltb deckSize (length deck) short)
-
-      pub stopped : (number line : ℕ) → worked deck ≡ Stopped number line → refused number line lent ≡ outcome deck named lent
-      stopped number line e = rw e at settles
-
-      module _ (τ : Time) (rs : List Result) (e : worked deck ≡ Done τ rs) where
-        by-room : (if noRoom named τ rs lent then refused 17 0 lent else accepted named τ rs lent) ≡ outcome deck named lent
-        by-room = rw e at settles
-
-        pub short-lent : noRoom named τ rs lent ≡ true → refused 17 0 lent ≡ outcome deck named lent
-        unfolding if_then_else_
-        short-lent h = rw h at by-room
-
-        pub all-room : noRoom named τ rs lent ≡ false → accepted named τ rs lent ≡ outcome deck named lent
-        unfolding if_then_else_
-        all-room h = rw h at by-room
+    pub stopped : (number line : ℕ) → worked deck ≡ Stopped number line → refused number line lent ≡ outcome deck named lent
+    stopped number line e = rw e at settles

@@ -1,4 +1,4 @@
--- Each way out is a way through the meaning of a run.
+-- Each way out is a way through the meaning of a run: refused for the sizes, refused at a line, or settled.
 use Prim.Native.Nat.{ℕ, _≤_}
 use mathlib.Core.Path.{_≡_, sym, ap, _∙_}
 use mathlib.Core.Bool.{Bool}
@@ -6,11 +6,11 @@ use mathlib.Core.List.{List}
 use native.Mathlib.Omega.{arith}
 use lib.ListN.{length, replicate}
 use borrow.Author.Needs.{needs}
-use Rattle.meaning.specs.Run.{Lent, workSize, deckSize}
-use Rattle.answers.specs.Answers.{lentAs}
+use Rattle.meaning.specs.Run.{Lent}
+use Rattle.answers.specs.Answers.{lentAs, sizeRefusal}
 use Rattle.walking.specs.Going.{WorkedBy}
-use Rattle.engine.specs.Outcomes.{little-work, long-deck, stopped}
-use Rattle.engine.specs.Walked.{refused-as, short-as, accepted-as}
+use Rattle.engine.specs.Outcomes.{refused-size, stopped}
+use Rattle.engine.specs.Walked.{work-enough, refused-as, settled-as}
 use Rattle.engine.proofs.run.Statement.{statement}
 use Rattle.engine.proofs.run.Tie as tie
 
@@ -45,11 +45,8 @@ ordinates-long c = c .walk-deck .kept .1 .1 .1 .0 ∙ c .before .before .before 
 records-long : (c : Walked) → length (records c) ≡ length (entry c .args .records .now)
 records-long c = c .walk-deck .kept .1 .1 .1 .1 .0 ∙ c .before .before .before .before .before .before .before .fill-bytes .kept .0
 
-enough : (c : Walked) → workSize ≤ length (entry c .args .work .now)
-enough c = c .before .before .before .before .before .before .before .before .before .before .before .before .before .before .if1 .left
-
-short : (c : Walked) → length (entry c .args .deck .now) ≤ deckSize
-short c = c .before .before .before .before .before .before .before .before .before .before .before .before .before .if2 .left
+sized : (c : Walked) → sizeRefusal (length (entry c .args .work .now)) (length (entry c .args .deck .now)) ≡ 0
+sized c = sym (c .before .before .before .before .before .before .before .before .before .before .before .before .before .before .size-refusal .ensures) ∙ c .before .before .before .before .before .before .before .before .before .before .before .before .before .if1 .left
 
 says : (c : Walked) (t : Bool) → c .walk-deck .result .refused ≡ t
     → let w = c .walk-deck .result in
@@ -62,71 +59,43 @@ says c t is =
 
 returns : tie.Need-returns
 returns c =
-    let s = c .before .before .before .before .before .before .before .before .before .before .before .before .before .before .before in
-    let little = c .before .before .before .before .before .before .before .before .before .before .if1 .taken in
-    c .before .before .before .before .before .before .refuse .ensures ∙ little-work (s .args .deck .now) (s .args .named) (lent s) little
-
-returns-2 : tie.Need-returns-2
-returns-2 c =
     let s = c .before .before .before .before .before .before .before .before .before .before .before .before .before .before .before .before in
-    let enough = c .before .before .before .before .before .before .before .before .before .before .before .if1 .left in
-    let long = c .before .before .before .before .before .before .before .before .before .before .if2 .taken in
-    c .before .before .before .before .before .before .refuse2 .ensures ∙ long-deck (s .args .deck .now) (s .args .named) (lent s) enough long
+    let is = c .before .before .before .before .before .before .before .before .before .before .before .size-refusal .ensures in
+    c .before .before .before .before .before .before .refuse .ensures ∙ rw is (refused-size (s .args .deck .now) (s .args .named) (lent s) (rw is at (c .before .before .before .before .before .before .before .before .before .before .if1 .taken)))
 
 walk-deck-requires : tie.Need-walk-deck-requires
 walk-deck-requires c κs =
     let z = c .before .before .before .before .before .before .before .before .before .before .zero-words in
     let y = c .before .before .before .before .before .before .fill-bytes in
-    let enough = c .before .before .before .before .before .before .before .before .before .before .before .before .before .if1 .left in
+    let s = c .before .before .before .before .before .before .before .before .before .before .before .before .before .before .before .before .before .before in
+    let enough = work-enough (length (s .args .work .now)) (length (s .args .deck .now)) (sym (c .before .before .before .before .before .before .before .before .before .before .before .before .before .size-refusal .ensures) ∙ c .before .before .before .before .before .before .before .before .before .before .before .before .if1 .left) in
     ((enough, omega arith), (all-zeros (z .kept .0) (z .ensures), all-zeros (y .kept .0) (y .ensures)))
+
+returns-2 : tie.Need-returns-2
+returns-2 c =
+    let p = c .before .before .before .before .before .before .before .before .before .before .before .before .before .before .before .before .before .before in
+    let x = entry p .args in
+    let w = p .walk-deck .result in
+    refused-as (x .deck .now) (x .named) (x .work .now) (x .ordinates .now) (x .records .now) (work p) (ordinates p) (records p) (work-long p) (ordinates-long p) (records-long p) _
+    (w .number) (w .line) (c .before .before .before .before .before .before .refuse2 .ensures)
+    (stopped (x .deck .now) (x .named) (lent (entry p)) (sized p) (w .number) (w .line) (says p _ (c .before .before .before .before .before .before .before .before .before .before .if2 .taken)))
+
+settle-requires : tie.Need-settle-requires
+settle-requires c κs = says (c .before .before .before .before .before .before .before .before .before .before .before) _ (c .before .before .before .if2 .left) .few
 
 returns-3 : tie.Need-returns-3
 returns-3 c =
     let p = c .before .before .before .before .before .before .before .before .before .before .before .before .before .before .before .before .before .before in
     let x = entry p .args in
     let w = p .walk-deck .result in
-    let refused = c .before .before .before .before .before .before .before .before .before .before .if3 .taken in
-    refused-as (x .deck .now) (x .named) (x .work .now) (x .ordinates .now) (x .records .now) (work p) (ordinates p) (records p) (work-long p) (ordinates-long p) (records-long p) _
-    (w .number) (w .line) (c .before .before .before .before .before .before .refuse3 .ensures)
-    (stopped (x .deck .now) (x .named) (lent (entry p)) (enough p) (short p) (w .number) (w .line) (says p _ refused))
-
-lacks-room-requires : tie.Need-lacks-room-requires
-lacks-room-requires c κs = says (c .before .before .before .before .before .before .before .before) _ (c .if3 .left) .few
-
-same-length-11 : tie.Need-same-length-11
-same-length-11 c =
-    let p = c .before .before .before .before .before .before .before .before .before .before .before .before .before .before .before .before .before .before .before .before in
-    c .before .before .before .before .before .before .refuse4 .kept .1 .1 .1 .0 ∙ ordinates-long p
-
-returns-4 : tie.Need-returns-4
-returns-4 c =
-    let p = c .before .before .before .before .before .before .before .before .before .before .before .before .before .before .before .before .before .before .before .before in
-    let x = entry p .args in
-    let w = p .walk-deck .result in
-    let well = c .before .before .before .before .before .before .before .before .before .before .before .before .if3 .left in
-    let lacks = c .before .before .before .before .before .before .before .before .before .before .if4 .taken in
-    refused-as (x .deck .now) (x .named) (x .work .now) (x .ordinates .now) (x .records .now) (work p) (ordinates p) (records p) (work-long p) (ordinates-long p) (records-long p) _
-    17 0 (c .before .before .before .before .before .before .refuse4 .ensures)
-    (short-as (x .deck .now) (x .named) (x .work .now) (x .ordinates .now) (x .records .now) (work p) (ordinates p) (records p) (work-long p) (ordinates-long p) (records-long p)
-    (w .nq) (w .blocks) (enough p) (short p) (says p _ well) (sym (c .before .before .before .before .before .before .before .before .before .before .before .lacks-room .ensures) ∙ lacks))
-
-returns-5 : tie.Need-returns-5
-returns-5 c =
-    let p = c .before .before .before .before .before .before .before .before .before .before .before .before .before .before in
-    let x = entry p .args in
-    let w = p .walk-deck .result in
-    let well = c .before .before .before .before .before .before .if3 .left in
-    let room = c .before .before .before .before .if4 .left in
-    rw (c .before .before .zero-words2 .ensures)
-    (accepted-as (x .deck .now) (x .named) (x .work .now) (x .ordinates .now) (x .records .now) (work p) (ordinates p) (records p) (work-long p) (ordinates-long p) (records-long p)
-    (w .nq) (w .blocks) (enough p) (short p) (says p _ well) (sym (c .before .before .before .before .before .lacks-room .ensures) ∙ room))
+    c .before .before .before .before .before .before .settle .ensures
+    ∙ settled-as (x .deck .now) (x .named) (x .work .now) (x .ordinates .now) (x .records .now) (work p) (ordinates p) (records p) (work-long p) (ordinates-long p) (records-long p)
+    (w .nq) (w .blocks) (sized p) (says p _ (c .before .before .before .before .before .before .before .before .before .before .if2 .left))
 
 pub run-spec : {M : Type 1} → statement M
 run-spec =
     tie.close
     (tie.spec
-    (λ c κs. search needs) (λ c. search needs) (λ c. search needs) (λ c. search needs) returns (λ c κs. search needs) (λ c. search needs)
-    (λ c. search needs) (λ c. search needs) returns-2 (λ c κs. search needs) (λ c κs. search needs) (λ c. search needs) walk-deck-requires
-    (λ c κs. search needs) (λ c. search needs) (λ c. search needs) (λ c. search needs) returns-3 lacks-room-requires (λ c κs. search needs)
-    (λ c. search needs) same-length-11 (λ c. search needs) returns-4 (λ c κs. search needs) (λ c. search needs) (λ c. search needs)
-    (λ c. search needs) returns-5)
+    (λ c κs. search needs) (λ c κs. search needs) (λ c. search needs) (λ c. search needs) (λ c. search needs) returns (λ c κs. search needs)
+    (λ c κs. search needs) (λ c. search needs) walk-deck-requires (λ c κs. search needs) (λ c. search needs) (λ c. search needs) (λ c. search needs) returns-2
+    settle-requires (λ c. search needs) (λ c. search needs) (λ c. search needs) returns-3)
