@@ -7,7 +7,6 @@ use denote.Ref.{now}
 use Rattle.sequences.specs.Contracts.{Once}
 use Rattle.meaning.specs.Blocks.{Time}
 use Rattle.blocks.specs.Cards.{blockOf}
-use Rattle.blocks.specs.Kinds.{kind-told}
 use Rattle.blocks.proofs.take_values.Kinds as take-values
 use Rattle.blocks.proofs.take_values.Reads as take-values-says
 use Rattle.blocks.proofs.is_given.Kinds as is-given
@@ -20,8 +19,6 @@ use Rattle.blocks.proofs.value_at.Kinds as value-at
 use Rattle.blocks.proofs.value_at.Reads as value-at-says
 use Rattle.blocks.proofs.clear.Kinds as clear
 use Rattle.blocks.proofs.clear.Reads as clear-says
-use Rattle.blocks.proofs.kind_of.Kinds as kind-of
-use Rattle.blocks.proofs.kind_of.Reads as kind-of-says
 
 pub one-is-given : Once is-given.ps is-given.r is-given-says.Post (λ κs x y e f. x ≡ y)
 one-is-given κs a x y e f p q = p [] ∙ sym (q [])
@@ -43,6 +40,3 @@ one-take-values κs a x y e f p q =
     let τ : Time = record { minutes = 0; ordinates = a .1 .1 .1 .1 .0 } in
     let same : x ≡ y = p .number τ refl [] ∙ sym (q .number τ refl []) in
     (same, λ (name : List ℕ). (rw same at (p .block name)) ∙ sym (q .block name))
-
-pub one-kind-of : Once kind-of.ps kind-of.r kind-of-says.Post (λ κs x y e f. x ≡ y)
-one-kind-of κs a x y e f p q = kind-told x y (p [] ∙ sym (q []))

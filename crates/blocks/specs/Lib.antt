@@ -5,5 +5,3 @@ pub mod Cards
 pub mod Taking
 pub mod Values
 pub mod Clearing
-pub mod Masks
-pub mod Kinds

@@ -6,19 +6,23 @@ use mathlib.Core.List.{List, [], _∷_}
 use native.Mathlib.Nat.{add-zero}
 use native.Mathlib.Omega.{arith}
 use borrow.Author.Tests.{lt-ltb}
-use lib.ListN.{length, take, drop, getD, length-take}
+use lib.ListN.{length, take, drop, getD, length-take, length-map}
 use lib.Seq.{take-take, drop-drop}
 use Rattle.sequences.specs.Parts.{part, getD-part}
 use Rattle.meaning.specs.Words.{_<?_}
 use Rattle.meaning.specs.Records.{Row, Once, Listed, UpTo, UpToNQ, table, Item, rowOf, listsIn}
 use Rattle.meaning.specs.Blocks.{isGiven, valuesOf, cardOf, repeated}
 use Rattle.records.specs.Rows.{items, most-fits, roomOf, start, wayIn, wordsOf}
-use Rattle.blocks.specs.Cards.{regionOf, headIn, countBy, cardIn, blockOf, Counted, Readable, count-low}
-use Rattle.blocks.specs.Taking.{card-at, values-in, region-part, region-long}
+use Rattle.blocks.specs.Cards.{regions, regionOf, headIn, countBy, cardIn, blockOf, Counted, Readable, count-low}
+use Rattle.blocks.specs.Taking.{card-at, values-in, all-regions, region-part, region-long}
 
 pub counted-readable : {nq : ℕ} {w : List ℕ} → Counted nq w → Readable w
 counted-readable {nq} k =
     record { long = k .long; heads = λ (p : ℕ). let h = k .heads p in let m = most-fits (rowOf p) nq (k .few) in omega arith }
+
+-- the words have a card for each record
+pub block-long : (name w : List ℕ) → length (blockOf name w .cards) ≡ items
+block-long name w = length-map (regions w) cardIn ∙ all-regions w
 
 -- behind the head of a region
 inner : (k m : ℕ) (z : List ℕ) → k ≤ m → take k (drop 1 (take (suc m) z)) ≡ take k (drop 1 z)

@@ -8,11 +8,9 @@ ghost use lib.ListN.{length, take, getD, set};
 ghost use lib.Seq.{paste};
 ghost use Rattle.meaning.specs.Words.{_<?_, met, if_then_else_};
 ghost use Rattle.meaning.specs.Records.{rowOf, table, mostOrdinates};
-ghost use Rattle.meaning.specs.Blocks.{isGiven, valuesOf, cardOf, repeated, opened, kindOf};
+ghost use Rattle.meaning.specs.Blocks.{isGiven, valuesOf, cardOf, repeated, opened};
 ghost use Rattle.blocks.specs.Cards.{headIn, countBy, blockOf, Counted, Readable, Takes};
 ghost use Rattle.records.specs.Rows.{items, spanIn, wordsOf};
-ghost use Rattle.blocks.specs.Masks.{bitOf, maskOf};
-ghost use Rattle.blocks.specs.Kinds.{kindMeant};
 
 // The time control: minutes of an interval, and how many ordinates.
 pub struct Time {
@@ -24,15 +22,6 @@ pub struct Time {
 pub struct Name {
     pub bytes: [u8; 6],
     pub letters: usize,
-}
-
-// The four kinds of a block, or none.
-pub enum Kind {
-    NoKind,
-    Basin,
-    Inflow,
-    Confluence,
-    Reach,
 }
 
 // How many values a head counts.
@@ -142,45 +131,5 @@ pub fn clear(cards: &mut [u64])
         let at = records::start_of(item);
         cards[at] = 0;
         item += 1;
-    }
-}
-
-// 1 where the record is there, else 0.
-fn bit_at(cards: &[u64], item: usize) -> u64
-    requires { ⌜ (item < items) × Readable (now cards) ⌝ }
-    ensures { λ r. ⌜ ((name : List ℕ) → r ≡ bitOf (isGiven (cardOf item (blockOf name (now (cards .entry)))))) × (r ≤ 1) ⌝ }
-{
-    if is_given(cards, item) {
-        return 1;
-    }
-    0
-}
-
-// The records that are there as one number: 2 to the power of its place for each.
-fn mask_of(cards: &[u64]) -> u64
-    requires { ⌜ Readable (now cards) ⌝ }
-    ensures { λ r. ⌜ ((name : List ℕ) → r ≡ maskOf (blockOf name (now (cards .entry)) .cards)) ⌝ }
-{
-    let mut mask: u64 = 0;
-    let mut left = records::RECORDS;
-    while 0 < left {
-        left -= 1;
-        mask = 2 * mask + bit_at(cards, left);
-    }
-    mask
-}
-
-// The kind of the block, from the records that are there: BA 1, PI 2, LU 4, UI 8, QI 16, HC 32, RM 64.
-pub fn kind_of(cards: &[u64]) -> Kind
-    requires { ⌜ Readable (now cards) ⌝ }
-    ensures { λ r. ⌜ ((name : List ℕ) → kindMeant r ≡ kindOf (blockOf name (now (cards .entry)))) ⌝ }
-{
-    match mask_of(cards) {
-        15 => Kind::Basin,
-        16 => Kind::Inflow,
-        17 => Kind::Inflow,
-        32 => Kind::Confluence,
-        64 => Kind::Reach,
-        _ => Kind::NoKind,
     }
 }

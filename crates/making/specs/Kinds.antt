@@ -7,7 +7,7 @@ use Rattle.meaning.specs.Words.{if_then_else_}
 use Rattle.meaning.specs.Records.{PI, UI, HC, table}
 use Rattle.meaning.specs.Blocks.{Time, Block, Kind, Confluence, takesBy, combined, rainValues, unitOrdinates}
 use Rattle.limits.specs.Within.{TimeWithin}
-use Rattle.blocks.specs.Kinds.{kind-must}
+use Rattle.kinds.specs.Kinds.{kind-must}
 use Rattle.excess.specs.declared.Loss.{Loss}
 use Rattle.routing.specs.Soundness.{Reach}
 use Rattle.runoff.specs.Storm.{Storm}

@@ -5,14 +5,14 @@ ghost use Prim.Native.Nat.{ℕ};
 ghost use Rattle.meaning.specs.Blocks.{Basin, Inflow, Confluence, Reach, basinArea};
 ghost use Rattle.blocks.specs.Meant.{timeIs};
 ghost use Rattle.blocks.specs.Cards.{blockOf, Readable};
-ghost use Rattle.blocks.specs.Kinds.{kindMeant};
+ghost use Rattle.kinds.specs.Kinds.{kindMeant};
 ghost use Rattle.stack.specs.Kinds.{blockLoss};
 ghost use Rattle.shaping.specs.Limits.{CardsWithin, Read};
 ghost use Rattle.shaping.specs.Shapes.{Shaped};
 ghost use Rattle.making.specs.Made.{HeldWithin, Makes};
-use blocks::Kind;
 use blocks::Time;
 use excess::Loss;
+use kinds::Kind;
 use stack::Stack;
 
 // The area of a basin or an inflow; a block without BA has none.

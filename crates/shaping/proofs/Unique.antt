@@ -2,7 +2,7 @@
 use mathlib.Core.Path.{_≡_, sym, _∙_}
 use mathlib.Core.List.{[]}
 use Rattle.sequences.specs.Contracts.{Once}
-use Rattle.blocks.specs.Kinds.{kind-told}
+use Rattle.kinds.specs.Kinds.{kind-told}
 use Rattle.shaping.proofs.number_of.Kinds as number-of
 use Rattle.shaping.proofs.number_of.Reads as number-of-says
 use Rattle.shaping.proofs.reach_of.Kinds as reach-of

@@ -16,8 +16,8 @@ use Rattle.meaning.specs.Blocks as blocks
 use Rattle.meaning.specs.Blocks.{Time, Block, NoKind, Reach, kindNumber, kindOf, takesBy, takes, brokenBy, broken, reachSteps, reachK, reachX}
 use Rattle.meaning.specs.Run.{shapeRefusal, depthAfter}
 use Rattle.limits.specs.Within.{TimeWithin}
-use Rattle.blocks.specs.Kinds.{kindMeant, kind-must}
-use Rattle.blocks.specs.declared.Kind.{Kind}
+use Rattle.kinds.specs.Kinds.{kindMeant, kind-must}
+use Rattle.kinds.specs.declared.Kind.{Kind}
 use Rattle.routing.specs.Soundness as routing
 use Rattle.shaping.specs.Limits.{CardsWithin, reach-small}
 use Rattle.shaping.specs.declared.Shape.{Shape}

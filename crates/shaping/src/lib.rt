@@ -5,11 +5,11 @@ ghost use Prim.Native.Nat.{ℕ};
 ghost use Rattle.meaning.specs.Blocks.{Reach, kindNumber, takesBy, brokenBy, reachSteps, reachK, reachX};
 ghost use Rattle.blocks.specs.Meant.{timeIs};
 ghost use Rattle.blocks.specs.Cards.{blockOf, Readable};
-ghost use Rattle.blocks.specs.Kinds.{kindMeant};
+ghost use Rattle.kinds.specs.Kinds.{kindMeant};
 ghost use Rattle.shaping.specs.Limits.{Read};
 ghost use Rattle.shaping.specs.Shapes.{refusalBy, ShapeIs};
-use blocks::Kind;
 use blocks::Time;
+use kinds::Kind;
 
 const MOST_HELD: usize = 20;
 
@@ -110,7 +110,7 @@ pub fn shape_of(time: Time, cards: &[u64], held: usize) -> Shape
     requires { ⌜ Read (timeIs time) (now cards) ⌝ }
     ensures { λ r. ⌜ ((name : List ℕ) → ShapeIs (timeIs time) (blockOf name (now (cards .entry))) held r) ⌝ }
 {
-    let kind = blocks::kind_of(cards);
+    let kind = kinds::kind_of(cards);
     let taken = taken_by(kind, cards);
     let broken = is_broken(kind, time, cards);
     let refusal = refusal_by(number_of(kind), taken, held, broken);

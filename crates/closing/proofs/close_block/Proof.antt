@@ -12,8 +12,7 @@ use Rattle.meaning.specs.Results.{peakOf}
 use Rattle.meaning.specs.Run.{heldFor, shapeRefusal}
 use Rattle.blocks.specs.Meant.{timeIs}
 use Rattle.blocks.specs.Cards.{blockOf}
-use Rattle.blocks.specs.Kinds.{block-long}
-use Rattle.blocks.specs.Values.{values-few}
+use Rattle.blocks.specs.Values.{block-long, values-few}
 use Rattle.stack.specs.View.{Fits, view}
 use Rattle.results.specs.declared.Summary.{Summary}
 use Rattle.results.specs.Summary.{summaryOf}

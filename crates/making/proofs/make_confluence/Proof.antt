@@ -6,7 +6,7 @@ use borrow.Author.Needs.{needs}
 use Rattle.meaning.specs.Blocks.{combined}
 use Rattle.blocks.specs.Meant.{timeIs}
 use Rattle.blocks.specs.Cards.{blockOf}
-use Rattle.blocks.specs.Kinds.{block-long}
+use Rattle.blocks.specs.Values.{block-long}
 use Rattle.stack.specs.View.{view}
 use Rattle.stack.specs.Kinds.{after-confluence}
 use Rattle.making.specs.Made.{makes-by}

@@ -6,7 +6,7 @@ use native.Mathlib.Omega.{arith}
 use borrow.Author.Needs.{needs}
 use Rattle.blocks.specs.Meant.{timeIs}
 use Rattle.blocks.specs.Cards.{blockOf}
-use Rattle.blocks.specs.Kinds.{block-long}
+use Rattle.blocks.specs.Values.{block-long}
 use Rattle.stack.specs.View.{view}
 use Rattle.stack.specs.Kinds.{after-reach}
 use Rattle.shaping.specs.Shapes.{shaped-passes, reach-shaped}

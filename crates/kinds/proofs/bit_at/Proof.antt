@@ -1,9 +1,9 @@
 -- By whether the record is there.
 use mathlib.Core.Path.{sym, _∙_, ap}
-use Rattle.blocks.specs.Masks.{bitOf}
+use Rattle.kinds.specs.Masks.{bitOf}
 use borrow.Author.Needs.{needs}
-use Rattle.blocks.proofs.bit_at.Statement.{statement}
-use Rattle.blocks.proofs.bit_at.Tie as tie
+use Rattle.kinds.proofs.bit_at.Statement.{statement}
+use Rattle.kinds.proofs.bit_at.Tie as tie
 
 returns : tie.Need-returns
 returns c = (λ name. ap bitOf (sym (c .if1 .taken) ∙ c .before .is-given .ensures name), search needs)

@@ -6,9 +6,9 @@ use native.Mathlib.Omega.{arith}
 use native.Mathlib.Nat.{le-refl}
 use borrow.Author.Needs.{needs}
 use Rattle.records.specs.Rows.{items}
-use Rattle.blocks.specs.Masks.{maskOn, mask-next, mask-end, mask-small}
-use Rattle.blocks.proofs.mask_of.Statement.{statement}
-use Rattle.blocks.proofs.mask_of.Tie as tie
+use Rattle.kinds.specs.Masks.{maskOn, mask-next, mask-end, mask-small}
+use Rattle.kinds.proofs.mask_of.Statement.{statement}
+use Rattle.kinds.proofs.mask_of.Tie as tie
 
 abbrev Inv-loop : tie.InvT-loop
 Inv-loop cards mask₀ left₀ mask left = (left ≤ items) × (mask ≡ maskOn cards left)

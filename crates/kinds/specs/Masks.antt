@@ -10,14 +10,14 @@ use native.Mathlib.Omega.{arith}
 use borrow.Author.Tests.{eq-eqb, ne-eqb, eqb-true, eqb-false}
 use native.Mathlib.Nat.{pow-zero, pow-suc, pow-le-pow-right}
 use native.Mathlib.Numerals.{add-one}
-use lib.ListN.{length, drop, length-drop, length-map, drop-of-length-le}
+use lib.ListN.{length, drop, length-drop, drop-of-length-le}
 use lib.Seq.{drop-cons}
 use Rattle.meaning.specs.Words.{_=?_, if_then_else_}
 use Rattle.meaning.specs.Records.{Item}
 use Rattle.meaning.specs.Blocks.{Card, Absent, isGiven, cardOf, among, agreesFrom}
 use Rattle.records.specs.Rows.{items}
 use Rattle.blocks.specs.Cards.{regions, cardIn, blockOf}
-use Rattle.blocks.specs.Taking.{all-regions}
+use Rattle.blocks.specs.Values.{block-long}
 
 abbrev pub bitOf : Bool → ℕ
 bitOf true = 1
@@ -102,18 +102,15 @@ mask-low [] = rw (pow-zero 2) (omega arith)
 mask-low (c ∷ cs) = let h = mask-low cs in rw (pow-suc 2 (length cs)) (omega (arith, bit-low (isGiven c)))
 
 module _ (name w : List ℕ) (item : Item) where
-  cards-long : length (map cardIn (regions w)) ≡ items
-  cards-long = length-map (regions w) cardIn ∙ all-regions w
-
   pub mask-next : item < items → bitOf (isGiven (cardOf item (blockOf name w))) + 2 * maskOn w (item + 1) ≡ maskOn w item
   mask-next inside =
-      let h : item < length (map cardIn (regions w)) = rw cards-long inside in
+      let h : item < length (map cardIn (regions w)) = rw (block-long name w) inside in
       rw (drop-cons (map cardIn (regions w)) item Absent h, add-one)
 
   pub mask-end : items ≤ item → maskOn w item ≡ 0
-  mask-end past = let h : length (map cardIn (regions w)) ≤ item = rw cards-long past in rw (drop-of-length-le (map cardIn (regions w)) h)
+  mask-end past = let h : length (map cardIn (regions w)) ≤ item = rw (block-long name w) past in rw (drop-of-length-le (map cardIn (regions w)) h)
 
   pub mask-small : maskOn w item < 2 ^ items
   mask-small =
-      let few : length (drop item (map cardIn (regions w))) ≤ items = simp length-drop (omega (arith, cards-long)) in
+      let few : length (drop item (map cardIn (regions w))) ≤ items = simp length-drop (omega (arith, block-long name w)) in
       omega (arith, mask-low (drop item (map cardIn (regions w))), pow-le-pow-right {n = 2} (omega arith) few)

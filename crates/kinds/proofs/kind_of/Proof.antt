@@ -5,10 +5,10 @@ use mathlib.Core.List.{List}
 use borrow.Author.Needs.{needs}
 use Rattle.meaning.specs.Words.{if_then_else_}
 use Rattle.meaning.specs.Blocks.{sets, kindOf}
 use Rattle.blocks.specs.Cards.{blockOf}
-use Rattle.blocks.specs.Kinds.{kindAt, kind-by-mask, kind-by-none}
-use Rattle.blocks.proofs.kind_of.Statement.{statement}
-use Rattle.blocks.proofs.kind_of.Tie as tie
+use Rattle.kinds.specs.Kinds.{kindAt, kind-by-mask, kind-by-none}
+use Rattle.kinds.proofs.kind_of.Statement.{statement}
+use Rattle.kinds.proofs.kind_of.Tie as tie
 
 by-key : (c : tie.After-mask-of) (k : ℕ) → c .mask-of .result ≡ k → (name : List ℕ) → kindAt sets k ≡ kindOf (blockOf name (c .before .before .args .cards .now))
 by-key c k e name = ap (kindAt sets) (sym e ∙ c .mask-of .ensures name) ∙ sym (kind-by-mask name (c .before .before .args .cards .now))

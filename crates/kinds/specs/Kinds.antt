@@ -5,22 +5,22 @@
 --     kind-must      a record that every set of a kind must have is there
 use Prim.Native.Nat.{ℕ, zero, suc, _+_, _<_}
 use mathlib.Core.Path.{_≡_, refl, sym, _∙_, ap}
-use mathlib.Core.Bool.{Bool, true, false, _&&_, _||_}
+use mathlib.Core.Bool.{Bool, true, false, _&&_}
 use mathlib.Core.List.{List, [], _∷_, _++_}
 use native.Mathlib.Omega.{arith}
 use borrow.Author.Tests.{eq-eqb, ne-eqb}
-use lib.ListN.{length, getD, length-map}
+use lib.ListN.{length, getD}
 use Rattle.sequences.specs.Choices.{both-hold, both-fail}
 use Rattle.meaning.specs.Words.{_=?_, if_then_else_}
 use Rattle.meaning.specs.Records.{Item}
 use Rattle.meaning.specs.Blocks as blocks
 use Rattle.meaning.specs.Blocks.{Card, Absent, isGiven, Block, cardOf, kindNumber, Set, SetOf, sets, among, agreesAt, agreesFrom, holds, kindIn, kindOf}
 use Rattle.records.specs.Rows.{items}
-use Rattle.blocks.specs.Cards.{regions, cardIn, blockOf}
-use Rattle.blocks.specs.Taking.{all-regions}
-use Rattle.blocks.specs.Masks.{maskOf, masks, among-append, agrees-mask}
-use Rattle.blocks.specs.declared.Kind.{Kind}
-use Rattle.blocks.specs.declared.Kind.the-variants.{NoKind, Basin, Inflow, Confluence, Reach}
+use Rattle.blocks.specs.Cards.{blockOf}
+use Rattle.blocks.specs.Values.{block-long}
+use Rattle.kinds.specs.Masks.{maskOf, masks, among-append, agrees-mask}
+use Rattle.kinds.specs.declared.Kind.{Kind}
+use Rattle.kinds.specs.declared.Kind.the-variants.{NoKind, Basin, Inflow, Confluence, Reach}
 
 abbrev pub kindMeant : Kind → blocks.Kind
 kindMeant NoKind = blocks.NoKind
@@ -47,10 +47,6 @@ meant-back Reach = refl
 
 pub kind-told : (x y : Kind) → kindMeant x ≡ kindMeant y → x ≡ y
 kind-told x y e = meant-back x ∙ rw e (sym (meant-back y))
-
--- the words have a card for each record
-pub block-long : (name w : List ℕ) → length (blockOf name w .cards) ≡ items
-block-long name w = length-map (regions w) cardIn ∙ all-regions w
 
 abbrev pub kindAt : List Set → ℕ → blocks.Kind
 kindAt [] mask = blocks.NoKind
