@@ -3,7 +3,7 @@
 --     done-fits     so is the end of every deck
 use Prim.Native.Nat.{ℕ, zero, suc, _+_, _*_, _≤_, _<_, max}
 use mathlib.Core.Path.{_≡_, refl}
-use mathlib.Core.Bool.{Bool, true, false, not}
+use mathlib.Core.Bool.{not}
 use mathlib.Core.List.{List, [], _∷_, _++_}
 use native.Mathlib.Omega.{arith}
 use borrow.Author.Tests.{ltb-false, leb-false}
@@ -24,7 +24,7 @@ use Rattle.routing.specs.Lengths.{length-routed}
 use Rattle.results.specs.Records.{Each, each-more}
 use Rattle.closing.specs.Sizes.{area-after}
 use Rattle.text.specs.Trim.{name-sound}
-use Rattle.printing.specs.Listed.{Fits, fits}
+use Rattle.figures.specs.Listed.{Fits, fits}
 
 pub record Fitting (τ : Time) (rs : List Result) : Type 0 where
   pub ordinates : τ .ordinates ≤ mostOrdinates

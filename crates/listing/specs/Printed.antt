@@ -21,7 +21,7 @@ use Rattle.answers.specs.declared.Answer as engine
 use Rattle.answers.specs.declared.Answer.the-variants as answer
 use Rattle.answers.specs.Answers.{outcomeIs}
 use Rattle.text.specs.Written.{Written}
-use Rattle.printing.specs.Line.{listingOf}
+use Rattle.printing.specs.Lines.{listingOf}
 use Rattle.printing.specs.Listed.{listing-of}
 use Rattle.listing.specs.Sizes.{recordsSize}
 use Rattle.listing.specs.Fitting.{Fitting, done-fits}

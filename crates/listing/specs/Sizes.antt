@@ -2,7 +2,8 @@
 use Prim.Native.Nat.{ℕ, _+_, _*_}
 use Rattle.meaning.specs.Results.{recordSize}
 use Rattle.meaning.specs.Run.{mostBlocks}
-use Rattle.printing.specs.Sizes.{lineSize, endSize}
+use Rattle.figures.specs.Line.{lineSize}
+use Rattle.printing.specs.Sizes.{endSize}
 
 abbrev pub recordsSize : ℕ
 recordsSize = recordSize * mostBlocks

@@ -1,51 +1,18 @@
 -- How much room a listing takes.
---     line-short     a line has at most lineSize bytes
---     lines-short    and so each of the lines of some records
+--     lines-short    each of the lines of some records has at most lineSize bytes
 --     end-short      the last line has at most endSize
-use mathlib.Core.Path.{_≡_}
 use mathlib.Core.List.{List}
-use Prim.Native.Nat.{ℕ, zero, suc, _+_, _*_, _/_, _^_, _≤_, _<_}
+use Prim.Native.Nat.{ℕ, zero, suc, _+_, _*_, _^_, _≤_, _<_}
 use native.Mathlib.Omega.{arith}
 use lib.ListN.{length, length-append}
 use Rattle.meaning.specs.Results.{recordSize}
 use Rattle.sequences.specs.Bounds.{AllUpTo, bound-part}
 use Rattle.sequences.specs.Parts.{part, length-part}
-use Rattle.slices.specs.Bytes.{fromLittleEndian, value-below}
-use Rattle.text.specs.Digits.{whole-short, length-twoPlaces}
-use Rattle.text.specs.Trim.{length-trim}
-use Rattle.printing.specs.Sizes.{lineSize, endSize}
-use Rattle.printing.specs.Line.{figuresOf, lineOf, linesTo, endLine, length-figures, length-line}
-
-module _ (r : List ℕ) (bytes : AllUpTo 255 r) (long : length r ≡ recordSize) where
-  figure-below : (a n : ℕ) → a + n ≤ recordSize → fromLittleEndian (part a n r) < 256 ^ n
-  figure-below a n h =
-      let fits : a + n ≤ length r = omega arith in
-      rw (length-part a n r fits) at (value-below (part a n r) (bound-part 255 a n r bytes))
-
-  pub line-short : length (lineOf r) ≤ lineSize
-  line-short =
-      let f = figuresOf r in
-      let six : 0 + 6 ≤ length r = omega arith in
-      let name = length-trim (part 0 6 r) in
-      let kind = figure-below 6 1 (omega arith) in
-      let area = figure-below 8 4 (omega arith) in
-      let peak = figure-below 12 8 (omega arith) in
-      let interval = figure-below 20 2 (omega arith) in
-      let sum = figure-below 24 8 (omega arith) in
-      omega (
-        arith,
-        length-line r,
-        length-part 0 6 r six,
-        name,
-        length-figures f,
-        whole-short 2 (f .kind) (omega arith),
-        length-twoPlaces (f .area),
-        whole-short 7 (f .area / 100) (omega arith),
-        length-twoPlaces (f .peak),
-        whole-short 11 (f .peak / 100) (omega arith),
-        whole-short 4 (f .interval) (omega arith),
-        whole-short 19 (f .sum) (omega arith),
-      )
+use Rattle.text.specs.Digits.{whole-short}
+use Rattle.figures.specs.Line.{lineOf, lineSize}
+use Rattle.figures.specs.Room.{line-short}
+use Rattle.printing.specs.Sizes.{endSize}
+use Rattle.printing.specs.Lines.{linesTo, endLine}
 
 pub lines-short : (k : ℕ) (records : List ℕ) → AllUpTo 255 records → recordSize * k ≤ length records → length (linesTo k records) ≤ lineSize * k
 lines-short zero records bytes long = omega arith

@@ -4,7 +4,7 @@ use mathlib.Core.Path.{_≡_}
 use native.Mathlib.Omega.{arith}
 use borrow.Author.Needs.{needs}
 use Rattle.meaning.specs.Listing.{listing}
-use Rattle.printing.specs.Line.{listingOf}
+use Rattle.printing.specs.Lines.{listingOf}
 use Rattle.text.specs.Counted.{written-counted}
 use Rattle.meaning.specs.Run.{mostBlocks}
 use Rattle.listing.specs.Printed.{accepted-prints, refused-prints}

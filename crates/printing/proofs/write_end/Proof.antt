@@ -1,7 +1,7 @@
 -- The word, the number and the line's end, one behind another.
 use native.Mathlib.Omega.{arith}
 use Rattle.text.specs.Written.{written-more}
-use Rattle.printing.specs.Line.{endLine, length-end}
+use Rattle.printing.specs.Lines.{endLine, length-end}
 use borrow.Author.Needs.{needs}
 use Rattle.printing.proofs.write_end.Statement.{statement}
 use Rattle.printing.proofs.write_end.Tie as tie

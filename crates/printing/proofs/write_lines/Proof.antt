@@ -7,8 +7,9 @@ use Rattle.meaning.specs.Results.{recordSize}
 use Rattle.sequences.specs.Bounds.{AllUpTo, bound-part}
 use Rattle.sequences.specs.Parts.{part, length-part}
 use Rattle.text.specs.Written.{Written, written-none, written-more}
-use Rattle.printing.specs.Line.{linesTo, lines-more}
-use Rattle.printing.specs.Room.{line-short, lines-short}
+use Rattle.figures.specs.Room.{line-short}
+use Rattle.printing.specs.Lines.{linesTo, lines-more}
+use Rattle.printing.specs.Room.{lines-short}
 use Rattle.printing.proofs.write_lines.Statement.{statement}
 use Rattle.printing.proofs.write_lines.Tie as tie
 

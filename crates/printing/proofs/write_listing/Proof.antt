@@ -3,7 +3,7 @@ use Prim.Native.Nat.{ℕ}
 use native.Mathlib.Omega.{arith}
 use Rattle.sequences.specs.Bounds.{AllUpTo}
 use Rattle.text.specs.Written.{written-more}
-use Rattle.printing.specs.Line.{listingOf}
+use Rattle.printing.specs.Lines.{listingOf}
 use Rattle.printing.specs.Room.{lines-short, end-short}
 use borrow.Author.Needs.{needs}
 use Rattle.printing.proofs.write_listing.Statement.{statement}

@@ -1,7 +1,7 @@
 -- Each figure is the number in its part, the peak rounded.
 use borrow.Author.Needs.{needs}
-use Rattle.printing.proofs.read_figures.Statement.{statement}
-use Rattle.printing.proofs.read_figures.Tie as tie
+use Rattle.figures.proofs.read_figures.Statement.{statement}
+use Rattle.figures.proofs.read_figures.Tie as tie
 
 returns : tie.Need-returns
 returns c =

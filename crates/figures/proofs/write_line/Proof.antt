@@ -3,10 +3,10 @@ use mathlib.Core.Path.{ap}
 use native.Mathlib.Omega.{arith}
 use lib.ListN.{length}
 use Rattle.text.specs.Written.{written-more}
-use Rattle.printing.specs.Line.{figuresText, lineOf, length-line}
+use Rattle.figures.specs.Line.{figuresText, lineOf, length-line}
 use borrow.Author.Needs.{needs}
-use Rattle.printing.proofs.write_line.Statement.{statement}
-use Rattle.printing.proofs.write_line.Tie as tie
+use Rattle.figures.proofs.write_line.Statement.{statement}
+use Rattle.figures.proofs.write_line.Tie as tie
 
 write-text-requires : tie.Need-write-text-requires
 write-text-requires c κs = omega (arith, length-line (c .before .before .before .before .before .args .from .now), ap length (c .trim-blanks .ensures))

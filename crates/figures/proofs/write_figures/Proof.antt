@@ -1,10 +1,10 @@
 -- One figure behind another. What is written so far and what is still to be written are together the line's text, for which there is room.
 use native.Mathlib.Omega.{arith}
 use Rattle.text.specs.Written.{written-more}
-use Rattle.printing.specs.Line.{figuresText, length-figures}
+use Rattle.figures.specs.Line.{figuresText, length-figures}
 use borrow.Author.Needs.{needs}
-use Rattle.printing.proofs.write_figures.Statement.{statement}
-use Rattle.printing.proofs.write_figures.Tie as tie
+use Rattle.figures.proofs.write_figures.Statement.{statement}
+use Rattle.figures.proofs.write_figures.Tie as tie
 
 write-number-requires : tie.Need-write-number-requires
 write-number-requires c κs = omega (arith, length-figures (c .before .before .args .f))
