@@ -3,8 +3,8 @@ use Prim.Native.Nat.{_≤_, _-_}
 use mathlib.Core.Logic.{⊎-elim}
 use native.Mathlib.Omega.{arith}
 use lib.ListN.{length}
-use Rattle.rooms.proofs.count_left.Statement.{statement}
-use Rattle.rooms.proofs.count_left.Tie as tie
+use Rattle.cases.proofs.count_left.Statement.{statement}
+use Rattle.cases.proofs.count_left.Tie as tie
 
 abbrev Inv-loop : tie.InvT-loop
 Inv-loop words n₀ i₀ n i = (i ≤ length words) × (n ≤ i)

@@ -5,8 +5,8 @@ use lib.ListN.{length-take}
 use lib.Seq.{length-take-le}
 use Rattle.text.specs.Counted.{written-counted}
 use borrow.Author.Needs.{needs}
-use Rattle.rooms.proofs.put_answer.Statement.{statement}
-use Rattle.rooms.proofs.put_answer.Tie as tie
+use Rattle.cases.proofs.put_answer.Statement.{statement}
+use Rattle.cases.proofs.put_answer.Tie as tie
 
 slice-aggregate-write-refusal : tie.Need-slice-aggregate-write-refusal
 slice-aggregate-write-refusal c =

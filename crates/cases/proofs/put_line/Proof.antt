@@ -3,8 +3,8 @@ use Prim.Native.Nat.{_+_, _*_, _-_, _≤_}
 use mathlib.Core.Path.{_≡_}
 use native.Mathlib.Omega.{arith}
 use lib.ListN.{length}
-use Rattle.rooms.proofs.put_line.Statement.{statement}
-use Rattle.rooms.proofs.put_line.Tie as tie
+use Rattle.cases.proofs.put_line.Statement.{statement}
+use Rattle.cases.proofs.put_line.Tie as tie
 
 abbrev Inv-loop : tie.InvT-loop
 Inv-loop out₀ start from to ordinates records at₀ i₀ out at i = (from ≤ i) × (i ≤ to) × (at ≤ start + 21 * (i - from)) × (length out ≡ length out₀)

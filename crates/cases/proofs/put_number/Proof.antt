@@ -2,8 +2,8 @@
 use native.Mathlib.Omega.{arith}
 use Rattle.text.specs.Digits.{whole-short}
 use borrow.Author.Needs.{needs}
-use Rattle.rooms.proofs.put_number.Statement.{statement}
-use Rattle.rooms.proofs.put_number.Tie as tie
+use Rattle.cases.proofs.put_number.Statement.{statement}
+use Rattle.cases.proofs.put_number.Tie as tie
 
 write-whole-requires : tie.Need-write-whole-requires
 write-whole-requires c κs = omega (arith, whole-short 19 (c .before .before .args .x) (omega arith))
