@@ -1,8 +1,41 @@
-// What is printed of a case that `rooms` runs: the answer, all ordinates, all record bytes, how many work words are not zero, and '--'.
+// A case of the program `rooms`: what it says before its deck, and what is printed of it.
 ghost use mathlib.Core.Path.{_≡_};
 ghost use Prim.Native.Nat.{_+_, _-_, _*_, _<_, _≤_};
 ghost use lib.ListN.{length};
+ghost use Rattle.sequences.specs.Parts.{part};
+ghost use Rattle.slices.specs.Bytes.{fromLittleEndian};
+ghost use Rattle.cases.specs.Case.{caseOf};
 use answers::Answer;
+
+// What a case says before its deck: the block that is named, the words, ordinates and bytes that are lent, and the deck's length.
+pub struct Case {
+    pub named: usize,
+    pub work: usize,
+    pub ordinates: usize,
+    pub records: usize,
+    pub size: usize,
+}
+
+fn number_at(b: &[u8], at: usize) -> usize
+    requires { ⌜ at + 4 ≤ length (now b) ⌝ }
+    ensures { λ r. ⌜ r ≡ fromLittleEndian (part at 4 (now (b .entry))) ⌝ }
+{
+    slices::read_le(&b[at..at + 4]) as usize
+}
+
+// Five numbers, each in 4 bytes, the lowest first.
+pub fn read_case(b: &[u8]) -> Case
+    requires { ⌜ 20 ≤ length (now b) ⌝ }
+    ensures { λ r. ⌜ r ≡ caseOf (now (b .entry)) ⌝ }
+{
+    Case {
+        named: number_at(b, 0),
+        work: number_at(b, 4),
+        ordinates: number_at(b, 8),
+        records: number_at(b, 12),
+        size: number_at(b, 16),
+    }
+}
 
 // A number has at most 20 digits.
 fn put_number(out: &mut [u8], at: usize, x: u64) -> usize

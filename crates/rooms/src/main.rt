@@ -1,7 +1,8 @@
 // Cases from standard input, each the named block, the work words, the ordinates, the record bytes and the deck's length, in 4 bytes each, and the deck.
 // Everything lent is filled with ones before a run. Of each: the answer, all ordinates, all record bytes, how many work words are not zero, and '--'.
-ghost use Prim.Native.Nat.{_+_, _≤_};
+ghost use Prim.Native.Nat.{_≤_};
 ghost use lib.ListN.{length};
+use cases::Case;
 use streams::Next;
 
 // The most that a case may ask for, and the bytes of its text.
@@ -20,15 +21,6 @@ fn run_case(deck: &[u8], named: usize, work: &mut [u64], ordinates: &mut [u64], 
     let mut out = [0u8; TEXT];
     let n = cases::put_case(&mut out, answer, work, ordinates, records);
     streams::print(&out[..n]);
-}
-
-// What a case says before its deck.
-struct Case {
-    pub named: usize,
-    pub work: usize,
-    pub ordinates: usize,
-    pub records: usize,
-    pub size: usize,
 }
 
 fn lend(deck: &[u8], case: Case)
@@ -54,23 +46,10 @@ enum Asked {
     Nothing,
 }
 
-// One of the numbers before a deck.
-fn number_at(b: &[u8], at: usize) -> usize
-    requires { ⌜ at + 4 ≤ length (now b) ⌝ }
-{
-    slices::read_le(&b[at..at + 4]) as usize
-}
-
-fn read_case() -> Asked {
+fn next_case() -> Asked {
     let mut b = [0u8; 20];
     match streams::fill(&mut b) {
-        Next::Number(_) => Asked::Run(Case {
-            named: number_at(&b, 0),
-            work: number_at(&b, 4),
-            ordinates: number_at(&b, 8),
-            records: number_at(&b, 12),
-            size: number_at(&b, 16),
-        }),
+        Next::Number(_) => Asked::Run(cases::read_case(&b)),
         none => {
             streams::explain(none);
             Asked::Nothing
@@ -80,7 +59,7 @@ fn read_case() -> Asked {
 
 // Answers whether there was a whole case that asks no more than can be lent.
 fn answer_next(deck: &mut [u8]) -> bool {
-    let Asked::Run(case) = read_case() else {
+    let Asked::Run(case) = next_case() else {
         return false;
     };
     if WORK < case.work {

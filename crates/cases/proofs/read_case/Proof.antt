@@ -1,0 +1,29 @@
+-- Each number is the one in its four bytes.
+use borrow.Author.Needs.{needs}
+use Rattle.cases.proofs.read_case.Statement.{statement}
+use Rattle.cases.proofs.read_case.Tie as tie
+
+returns : tie.Need-returns
+returns c =
+    let records = c .before in
+    let ordinates = records .before in
+    let work = ordinates .before in
+    let named = work .before in
+    rw (
+      named .number-at .ensures,
+      work .number-at2 .ensures,
+      ordinates .number-at3 .ensures,
+      records .number-at4 .ensures,
+      c .number-at5 .ensures,
+    )
+
+pub read-case-spec : {M : Type 1} → statement M
+read-case-spec =
+    tie.close
+    (tie.spec
+    (λ c κs. search needs)  -- number-at-requires
+    (λ c κs. search needs)  -- number-at-requires-2
+    (λ c κs. search needs)  -- number-at-requires-3
+    (λ c κs. search needs)  -- number-at-requires-4
+    (λ c κs. search needs)  -- number-at-requires-5
+    returns)

@@ -1,0 +1,2 @@
+-- What a case says before its deck.
+pub mod Case
