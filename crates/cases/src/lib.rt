@@ -1,11 +1,26 @@
 // A case of the program `rooms`: what it says before its deck, and what is printed of it.
 ghost use mathlib.Core.Path.{_≡_};
-ghost use Prim.Native.Nat.{_+_, _-_, _*_, _<_, _≤_};
+ghost use Prim.Native.Nat.{_+_, _*_, _<_, _≤_};
 ghost use lib.ListN.{length};
 ghost use Rattle.sequences.specs.Parts.{part};
 ghost use Rattle.slices.specs.Bytes.{fromLittleEndian};
+ghost use Rattle.answers.specs.Answers.{answerIs, outcomeIs};
+ghost use Rattle.text.specs.Written.{Written};
+ghost use Rattle.text.specs.Counted.{Counted};
+ghost use Rattle.printing.specs.Sizes.{refusalSize};
 ghost use Rattle.cases.specs.Case.{caseOf};
+ghost use Rattle.cases.specs.Sizes.{ordinateSize, byteSize, leftSize, caseSize};
+ghost use Rattle.cases.specs.Text.{line, answerLine, numberAt, numbersFrom, hexDigit, hex, hexAll, left, leftLines, caseText};
 use answers::Answer;
+
+// The most that a case may ask for, and the bytes that its text has room in: the answer, 21 for an ordinate, 2 for a record byte, the ends of these lines, the rest.
+pub const WORK: usize = 12_000;
+
+pub const ORDINATES: usize = 600;
+
+pub const RECORDS: usize = 16_000;
+
+pub const TEXT: usize = printing::REFUSAL + (21 * ORDINATES + 1) + (2 * RECORDS + 1) + 24;
 
 // What a case says before its deck: the block that is named, the words, ordinates and bytes that are lent, and the deck's length.
 pub struct Case {
@@ -37,92 +52,82 @@ pub fn read_case(b: &[u8]) -> Case
     }
 }
 
-// A number has at most 20 digits.
-fn put_number(out: &mut [u8], at: usize, x: u64) -> usize
-    requires { ⌜ at + 20 ≤ length (now out) ⌝ }
-    ensures { λ r. ⌜ r ≤ at + 20 ⌝ }
-{
-    text::write_whole(out, at, x)
-}
-
-fn put_answer(out: &mut [u8], answer: Answer) -> usize
-    requires { ⌜ 50 ≤ length (now out) ⌝ }
-    ensures { λ r. ⌜ r ≤ 50 ⌝ }
+// The line of the answer.
+fn write_answer(out: &mut [u8], answer: Answer) -> usize
+    requires { ⌜ refusalSize ≤ length (now out) ⌝ }
+    ensures text { λ r. ⌜ Written (now (out .entry)) 0 (answerLine (answerIs answer)) (now (out .exit)) r ⌝ }
+    ensures short { λ r. ⌜ r ≤ refusalSize ⌝ }
 {
     match answer {
         Answer::Accepted(ordinates, blocks) => {
-            let blank = put_number(out, 0, ordinates as u64);
-            let second = text::write_byte(out, blank, b' ');
-            let end = put_number(out, second, blocks as u64);
+            let second = text::write_whole(out, 0, ordinates as u64);
+            let end = text::write_number(out, second, blocks as u64);
             text::write_byte(out, end, b'\n')
         }
-        Answer::Refused(number, line) => printing::write_refusal(
-            &mut out[..printing::REFUSAL],
-            number,
-            line,
-        ),
+        Answer::Refused(number, line) => printing::write_refusal(out, number, line),
     }
 }
 
-// A blank before each word but the first.
-fn put_gap(out: &mut [u8], at: usize, i: usize) -> usize
-    requires { ⌜ at < length (now out) ⌝ }
-    ensures { λ r. ⌜ r ≤ at + 1 ⌝ }
+// A blank before each number but the first.
+fn write_ordinate(out: &mut [u8], at: usize, i: usize, x: u64) -> usize
+    requires { ⌜ at + ordinateSize ≤ length (now out) ⌝ }
+    ensures { λ r. ⌜ Written (now (out .entry)) at (numberAt i x) (now (out .exit)) r ⌝ }
 {
     if i == 0 {
-        return at;
+        return text::write_whole(out, at, x);
     }
-    text::write_byte(out, at, b' ')
+    text::write_number(out, at, x)
 }
 
-fn hex_digit(d: u8) -> u8
-    requires { ⌜ d < 16 ⌝ }
-{
-    if d < 10 { b'0' + d } else { b'a' + (d - 10) }
-}
-
-fn put_hex(out: &mut [u8], at: usize, b: u8) -> usize
-    requires { ⌜ at + 2 ≤ length (now out) ⌝ }
-    ensures { λ r. ⌜ r ≡ at + 2 ⌝ }
-{
-    let low = text::write_byte(out, at, hex_digit(b / 16));
-    text::write_byte(out, low, hex_digit(b % 16))
-}
-
-// What stands at place `i` of the results, the ordinates and the record bytes behind them: an ordinate in decimal, or a byte in hex.
-fn put_item(out: &mut [u8], at: usize, i: usize, ordinates: &[u64], records: &[u8]) -> usize
-    requires { ⌜ (i < length (now ordinates) + length (now records)) × (at + 21 ≤ length (now out)) ⌝ }
-    ensures { λ r. ⌜ r ≤ at + 21 ⌝ }
-{
-    if i < ordinates.len() {
-        let word = put_gap(out, at, i);
-        return put_number(out, word, ordinates[i]);
-    }
-    put_hex(out, at, records[i - ordinates.len()])
-}
-
-// A line of the results from one place to another.
-fn put_line(
-    out: &mut [u8],
-    start: usize,
-    from: usize,
-    to: usize,
-    ordinates: &[u64],
-    records: &[u8],
-) -> usize
-    requires { ⌜ (from ≤ to) × (to ≤ length (now ordinates) + length (now records)) × (start + 21 * (to - from) + 1 ≤ length (now out)) ⌝ }
-    ensures { λ r. ⌜ r ≤ start + 21 * (to - from) + 1 ⌝ }
+// The line of the ordinates.
+fn write_ordinates(out: &mut [u8], start: usize, ordinates: &[u64]) -> usize
+    requires { ⌜ start + ordinateSize * length (now ordinates) + 1 ≤ length (now out) ⌝ }
+    ensures text { λ r. ⌜ Written (now (out .entry)) start (line (numbersFrom 0 (now (ordinates .entry)))) (now (out .exit)) r ⌝ }
+    ensures short { λ r. ⌜ r ≤ start + ordinateSize * length (now (ordinates .entry)) + 1 ⌝ }
 {
     let mut at = start;
-    let mut i = from;
-    while i < to {
-        at = put_item(out, at, i, ordinates, records);
+    let mut i = 0;
+    while i < ordinates.len() {
+        at = write_ordinate(out, at, i, ordinates[i]);
         i += 1;
     }
     text::write_byte(out, at, b'\n')
 }
 
-fn count_left(words: &[u64]) -> u64 {
+fn hex_digit(d: u8) -> u8
+    requires { ⌜ d < 16 ⌝ }
+    ensures { λ r. ⌜ r ≡ hexDigit d ⌝ }
+{
+    if d < 10 { b'0' + d } else { b'a' + (d - 10) }
+}
+
+fn write_hex(out: &mut [u8], at: usize, b: u8) -> usize
+    requires { ⌜ at + byteSize ≤ length (now out) ⌝ }
+    ensures { λ r. ⌜ Written (now (out .entry)) at (hex b) (now (out .exit)) r ⌝ }
+{
+    let low = text::write_byte(out, at, hex_digit(b / 16));
+    text::write_byte(out, low, hex_digit(b % 16))
+}
+
+// The line of the record bytes.
+fn write_records(out: &mut [u8], start: usize, records: &[u8]) -> usize
+    requires { ⌜ start + byteSize * length (now records) + 1 ≤ length (now out) ⌝ }
+    ensures text { λ r. ⌜ Written (now (out .entry)) start (line (hexAll (now (records .entry)))) (now (out .exit)) r ⌝ }
+    ensures short { λ r. ⌜ r ≤ start + byteSize * length (now (records .entry)) + 1 ⌝ }
+{
+    let mut at = start;
+    let mut i = 0;
+    while i < records.len() {
+        at = write_hex(out, at, records[i]);
+        i += 1;
+    }
+    text::write_byte(out, at, b'\n')
+}
+
+// How many words are not zero.
+fn count_left(words: &[u64]) -> u64
+    ensures { λ r. ⌜ r ≡ left (now (words .entry)) ⌝ }
+{
     let mut n = 0;
     let mut i = 0;
     while i < words.len() {
@@ -134,21 +139,30 @@ fn count_left(words: &[u64]) -> u64 {
     n
 }
 
-pub fn put_case(
+// The line of the count, and the last one.
+fn write_left(out: &mut [u8], at: usize, work: &[u64]) -> usize
+    requires { ⌜ at + leftSize ≤ length (now out) ⌝ }
+    ensures { λ r. ⌜ Written (now (out .entry)) at (leftLines (now (work .entry))) (now (out .exit)) r ⌝ }
+{
+    let end = text::write_whole(out, at, count_left(work));
+    let mark = text::write_byte(out, end, b'\n');
+    text::write_text(out, mark, b"--\n")
+}
+
+// What is printed of a case.
+pub fn write_case(
     out: &mut [u8],
     answer: Answer,
     work: &[u64],
     ordinates: &[u64],
     records: &[u8],
 ) -> usize
-    requires { ⌜ 21 * (length (now ordinates) + length (now records)) + 76 ≤ length (now out) ⌝ }
-    ensures { λ r. ⌜ r ≤ length (now (out .exit)) ⌝ }
+    requires { ⌜ caseSize (length (now ordinates)) (length (now records)) ≤ length (now out) ⌝ }
+    ensures text { λ r. ⌜ Written (now (out .entry)) 0 (caseText (outcomeIs answer (now (work .entry)) (now (ordinates .entry)) (now (records .entry)))) (now (out .exit)) r ⌝ }
+    ensures counted { λ r. ⌜ Counted r (now (out .exit)) ⌝ }
 {
-    let flows = put_answer(out, answer);
-    let places = ordinates.len() + records.len();
-    let hex = put_line(out, flows, 0, ordinates.len(), ordinates, records);
-    let count = put_line(out, hex, ordinates.len(), places, ordinates, records);
-    let end = put_number(out, count, count_left(work));
-    let mark = text::write_byte(out, end, b'\n');
-    text::write_text(out, mark, b"--\n")
+    let flows = write_answer(out, answer);
+    let bytes = write_ordinates(out, flows, ordinates);
+    let count = write_records(out, bytes, records);
+    write_left(out, count, work)
 }

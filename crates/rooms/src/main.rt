@@ -5,21 +5,12 @@ ghost use lib.ListN.{length};
 use cases::Case;
 use streams::Next;
 
-// The most that a case may ask for, and the bytes of its text.
-const WORK: usize = 12_000;
-
-const ORDINATES: usize = 600;
-
-const RECORDS: usize = 16_000;
-
-const TEXT: usize = 21 * (ORDINATES + RECORDS) + 76;
-
 fn run_case(deck: &[u8], named: usize, work: &mut [u64], ordinates: &mut [u64], records: &mut [u8])
     requires { ⌜ (length (now ordinates) ≤ 600) × (length (now records) ≤ 16_000) ⌝ }
 {
     let answer = engine::run(deck, named, work, ordinates, records);
-    let mut out = [0u8; TEXT];
-    let n = cases::put_case(&mut out, answer, work, ordinates, records);
+    let mut out = [0u8; cases::TEXT];
+    let n = cases::write_case(&mut out, answer, work, ordinates, records);
     streams::print(&out[..n]);
 }
 
@@ -29,9 +20,9 @@ fn lend(deck: &[u8], case: Case)
     let w = case.work;
     let q = case.ordinates;
     let n = case.records;
-    let mut work = [1u64; WORK];
-    let mut ordinates = [1u64; ORDINATES];
-    let mut records = [1u8; RECORDS];
+    let mut work = [1u64; cases::WORK];
+    let mut ordinates = [1u64; cases::ORDINATES];
+    let mut records = [1u8; cases::RECORDS];
     run_case(
         deck,
         case.named,
@@ -62,13 +53,13 @@ fn answer_next(deck: &mut [u8]) -> bool {
     let Asked::Run(case) = next_case() else {
         return false;
     };
-    if WORK < case.work {
+    if cases::WORK < case.work {
         return false;
     }
-    if ORDINATES < case.ordinates {
+    if cases::ORDINATES < case.ordinates {
         return false;
     }
-    if RECORDS < case.records {
+    if cases::RECORDS < case.records {
         return false;
     }
     match streams::read_deck(deck, case.size) {

@@ -1,4 +1,5 @@
 -- Each number is the one in its four bytes.
+use Rattle.cases.specs.Case.{case-of}
 use borrow.Author.Needs.{needs}
 use Rattle.cases.proofs.read_case.Statement.{statement}
 use Rattle.cases.proofs.read_case.Tie as tie
@@ -9,13 +10,13 @@ returns c =
     let ordinates = records .before in
     let work = ordinates .before in
     let named = work .before in
-    rw (
-      named .number-at .ensures,
-      work .number-at2 .ensures,
-      ordinates .number-at3 .ensures,
-      records .number-at4 .ensures,
-      c .number-at5 .ensures,
-    )
+    let b = named .before .before .args .b .now in
+    case-of b
+    (named .number-at .ensures)
+    (work .number-at2 .ensures)
+    (ordinates .number-at3 .ensures)
+    (records .number-at4 .ensures)
+    (c .number-at5 .ensures)
 
 pub read-case-spec : {M : Type 1} → statement M
 read-case-spec =

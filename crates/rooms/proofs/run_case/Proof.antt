@@ -6,8 +6,8 @@ use borrow.Author.Needs.{needs}
 use Rattle.rooms.proofs.run_case.Statement.{statement}
 use Rattle.rooms.proofs.run_case.Tie as tie
 
-put-case-requires : tie.Need-put-case-requires
-put-case-requires c κs = omega arith
+write-case-requires : tie.Need-write-case-requires
+write-case-requires c κs = omega arith
 
 slice-aggregate-print : tie.Need-slice-aggregate-print
 slice-aggregate-print c = sym (length-take-le _ _ (search needs))
@@ -17,8 +17,8 @@ run-case-spec =
     tie.close
     (tie.spec
     (λ c κs. search needs)  -- run-requires
-    (λ c. search needs)  -- slice-aggregate-put-case
-    put-case-requires
+    (λ c. search needs)  -- slice-aggregate-write-case
+    write-case-requires
     (λ c. search needs)  -- array-share-prefix-out
     slice-aggregate-print
     (λ c κs. search needs)  -- print-requires

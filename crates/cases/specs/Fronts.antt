@@ -1,0 +1,64 @@
+-- What is printed, or counted, of the first few: what one more adds. And how long a number and a refusal are.
+--     numbers-more, hex-more      one more is printed
+--     left-zero, left-other       one more is looked at, which is zero or not
+--     number-short, refusal-short a number has at most 20 digits
+--     written-nothing             no text at all, at any place
+use mathlib.Core.Path.{_≡_, refl, sym, ap, _∙_}
+use mathlib.Core.List.{List, [], _∷_, _++_, append-nil, append-assoc}
+use Prim.Native.Nat.{ℕ, zero, suc, _+_, _^_, _≤_, _<_}
+use native.Mathlib.Nat.{add-zero}
+use native.Mathlib.Numerals.{add-one}
+use native.Mathlib.Omega.{arith}
+use lib.ListN.{length, getD, take, length-append, take-append-drop}
+use borrow.Author.Tests.{eq-eqb, ne-eqb}
+use Rattle.meaning.specs.Words.{_=?_, if_then_else_}
+use Rattle.meaning.specs.Listing.{refusedLine}
+use Rattle.text.specs.Digits.{whole-short}
+use Rattle.text.specs.Written.{Written}
+use Rattle.printing.specs.Sizes.{refusalSize}
+use Rattle.cases.specs.Sizes.{ordinateSize}
+use Rattle.cases.specs.Text.{numberAt, numbersFrom, hex, hexAll, left}
+
+numbers-next : (j i : ℕ) (xs : List ℕ) → i < length xs → numbersFrom j (take (suc i) xs) ≡ numbersFrom j (take i xs) ++ numberAt (j + i) (getD xs i 0)
+numbers-next j i [] h = absurd (omega arith)
+numbers-next j zero (x ∷ xs) h = rw add-zero (append-nil (numberAt j x))
+numbers-next j (suc i) (x ∷ xs) h =
+    let place : suc j + i ≡ j + suc i = omega arith in
+    rw (numbers-next (suc j) i xs (omega arith), place) (sym (append-assoc (numberAt j x) (numbersFrom (suc j) (take i xs)) (numberAt (j + suc i) (getD xs i 0))))
+
+pub numbers-more : (i : ℕ) (xs : List ℕ) → i < length xs → numbersFrom 0 (take (i + 1) xs) ≡ numbersFrom 0 (take i xs) ++ numberAt i (getD xs i 0)
+numbers-more i xs h =
+    let first : 0 + i ≡ i = omega arith in
+    rw (add-one i) (rw first at (numbers-next 0 i xs h))
+
+pub number-short : (i x : ℕ) → x < 10 ^ 20 → length (numberAt i x) ≤ ordinateSize
+number-short zero x h = omega (arith, whole-short 19 x h)
+number-short (suc i) x h = omega (arith, whole-short 19 x h)
+
+hex-next : (i : ℕ) (bs : List ℕ) → i < length bs → hexAll (take (suc i) bs) ≡ hexAll (take i bs) ++ hex (getD bs i 0)
+hex-next i [] h = absurd (omega arith)
+hex-next zero (b ∷ bs) h = refl
+hex-next (suc i) (b ∷ bs) h = ap (λ (l : List ℕ). hex b ++ l) (hex-next i bs (omega arith))
+
+pub hex-more : (i : ℕ) (bs : List ℕ) → i < length bs → hexAll (take (i + 1) bs) ≡ hexAll (take i bs) ++ hex (getD bs i 0)
+hex-more i bs h = rw (add-one i) (hex-next i bs h)
+
+left-next : (i : ℕ) (xs : List ℕ) → i < length xs → left (take (suc i) xs) ≡ left (take i xs) + (if getD xs i 0 =? 0 then 0 else 1)
+left-next i [] h = absurd (omega arith)
+left-next zero (x ∷ xs) h = omega arith
+left-next (suc i) (x ∷ xs) h = omega (arith, left-next i xs (omega arith))
+
+pub left-zero : (i : ℕ) (xs : List ℕ) → i < length xs → getD xs i 0 ≡ 0 → left (take (i + 1) xs) ≡ left (take i xs)
+unfolding if_then_else_
+left-zero i xs h e = rw (add-one i) (left-next i xs h ∙ rw (eq-eqb (getD xs i 0) 0 e) (add-zero (left (take i xs))))
+
+pub left-other : (i : ℕ) (xs : List ℕ) → i < length xs → 0 < getD xs i 0 → left (take (i + 1) xs) ≡ left (take i xs) + 1
+unfolding if_then_else_
+left-other i xs h some = rw (add-one i) (left-next i xs h ∙ rw (ne-eqb (getD xs i 0) 0 (λ e. absurd (omega arith))))
+
+pub refusal-short : (number at : ℕ) → number < 10 ^ 20 → at < 10 ^ 20 → length (refusedLine number at) ≤ refusalSize
+unfolding refusedLine
+refusal-short number at h k = simp length-append (omega (arith, whole-short 19 number h, whole-short 19 at k))
+
+pub written-nothing : (out : List ℕ) (at : ℕ) → Written out at [] out at
+written-nothing out at = record { place = sym (add-zero at); bytes = sym (take-append-drop at out) }
