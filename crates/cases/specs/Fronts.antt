@@ -2,19 +2,17 @@
 --     numbers-more, hex-more      one more is printed
 --     left-zero, left-other       one more is looked at, which is zero or not
 --     number-short, refusal-short a number has at most 20 digits
---     written-nothing             no text at all, at any place
 use mathlib.Core.Path.{_≡_, refl, sym, ap, _∙_}
 use mathlib.Core.List.{List, [], _∷_, _++_, append-nil, append-assoc}
 use Prim.Native.Nat.{ℕ, zero, suc, _+_, _^_, _≤_, _<_}
 use native.Mathlib.Nat.{add-zero}
 use native.Mathlib.Numerals.{add-one}
 use native.Mathlib.Omega.{arith}
-use lib.ListN.{length, getD, take, length-append, take-append-drop}
+use lib.ListN.{length, getD, take, length-append}
 use borrow.Author.Tests.{eq-eqb, ne-eqb}
 use Rattle.meaning.specs.Words.{_=?_, if_then_else_}
 use Rattle.meaning.specs.Listing.{refusedLine}
 use Rattle.text.specs.Digits.{whole-short}
-use Rattle.text.specs.Written.{Written}
 use Rattle.printing.specs.Sizes.{refusalSize}
 use Rattle.cases.specs.Sizes.{ordinateSize}
 use Rattle.cases.specs.Text.{numberAt, numbersFrom, hex, hexAll, left}
@@ -59,6 +57,3 @@ left-other i xs h some = rw (add-one i) (left-next i xs h ∙ rw (ne-eqb (getD x
 pub refusal-short : (number at : ℕ) → number < 10 ^ 20 → at < 10 ^ 20 → length (refusedLine number at) ≤ refusalSize
 unfolding refusedLine
 refusal-short number at h k = simp length-append (omega (arith, whole-short 19 number h, whole-short 19 at k))
-
-pub written-nothing : (out : List ℕ) (at : ℕ) → Written out at [] out at
-written-nothing out at = record { place = sym (add-zero at); bytes = sym (take-append-drop at out) }

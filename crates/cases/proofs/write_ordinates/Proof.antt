@@ -4,10 +4,10 @@ use mathlib.Core.Path.{_≡_, refl, _∙_}
 use native.Mathlib.Omega.{arith}
 use lib.ListN.{length, take, getD}
 use lib.Seq.{take-all}
-use Rattle.text.specs.Written.{Written, written-more}
+use Rattle.text.specs.Written.{written-none, Written, written-more}
 use Rattle.cases.specs.Sizes.{ordinateSize}
 use Rattle.cases.specs.Text.{numbersFrom}
-use Rattle.cases.specs.Fronts.{number-short, numbers-more, written-nothing}
+use Rattle.cases.specs.Fronts.{number-short, numbers-more}
 use Rattle.cases.proofs.write_ordinates.Statement.{statement}
 use Rattle.cases.proofs.write_ordinates.Tie as tie
 
@@ -19,7 +19,7 @@ abbrev μ-loop : tie.MeasureT-loop
 μ-loop out₀ start ordinates at₀ i₀ out at i = length ordinates - i
 
 loop-holds : tie.Need-loop-holds Inv-loop μ-loop
-loop-holds c = (omega arith, omega arith, refl, written-nothing _ _)
+loop-holds c = (omega arith, omega arith, refl, written-none _ _)
 
 loop-again : tie.Need-loop-again Inv-loop μ-loop
 loop-again c =
