@@ -11,7 +11,7 @@ use Rattle.meaning.specs.Results.{Result, recordSize}
 use Rattle.meaning.specs.Run as run
 use Rattle.meaning.specs.Run.{Stopped, Done, worked, namedFlow}
 use Rattle.results.specs.Records.{recordsIn}
-use Rattle.walking.specs.declared.Worked.{Worked}
+use Rattle.turns.specs.declared.Worked.{Worked}
 use Rattle.walking.specs.Going.{DoneIs, WorkedBy}
 use Rattle.walking.proofs.walk_deck.Kinds as walk-deck
 use Rattle.walking.proofs.walk_deck.Reads as walk-deck-says

@@ -21,14 +21,14 @@ use Rattle.blocks.specs.Meant.{timeIs}
 use Rattle.placing.specs.Readings.{readingIs, Ready, blockIs}
 use Rattle.stack.specs.declared.Stack.{Stack}
 use Rattle.stack.specs.View.{view}
-use Rattle.walking.specs.declared.Finished.{Finished}
 use Rattle.telling.specs.declared.Closed.{Closed}
 use Rattle.telling.specs.WrittenResult.{recordTold, recordPut, copiedNamed}
 use Rattle.closing.specs.ClosedBlock.{Closes}
 use Rattle.closing.specs.BetweenBlocks.{Carried, HeldAfter}
-use Rattle.walking.specs.declared.State.{State}
-use Rattle.walking.specs.declared.Worked.{Worked}
-use Rattle.walking.specs.declared.Turn.{Turn}
+use Rattle.turns.specs.declared.Finished.{Finished}
+use Rattle.turns.specs.declared.State.{State}
+use Rattle.turns.specs.declared.Worked.{Worked}
+use Rattle.turns.specs.declared.Turn.{Turn}
 
 abbrev pub standing : ℕ → List Held → List Result → Standing
 standing blocks held rs = record { blocks = blocks; held = held; results = rs }

@@ -1,7 +1,6 @@
 -- Laws of the walk over a deck.
 pub mod Events
 pub mod Going
-pub mod Turns
 pub mod ReadingOn
 pub mod OpenClosed
 pub mod Ways

@@ -19,7 +19,7 @@ use Rattle.placing.specs.Readings.{readingIs, readingBy, blockIs}
 use Rattle.placing.specs.Labels.{name-short}
 use Rattle.stack.specs.declared.Stack.{Stack}
 use Rattle.stack.specs.View.{view}
-use Rattle.walking.specs.declared.Finished.{Finished}
+use Rattle.turns.specs.declared.Finished.{Finished}
 use Rattle.closing.specs.ToldResult.{resultOf, told-number}
 use Rattle.closing.specs.BetweenBlocks.{Carried, carried-more, HeldAfter, held-more}
 use Rattle.walking.specs.Going.{standing, CountBy, Finishes, ClosedBy}

@@ -24,7 +24,7 @@ use Rattle.placing.specs.Readings.{readingIs, readingBy, Ready, blockIs}
 use Rattle.stack.specs.declared.Stack.{Stack}
 use Rattle.stack.specs.View.{view}
 use Rattle.closing.specs.BetweenBlocks.{Carried, carried-none, HeldAfter}
-use Rattle.walking.specs.declared.State.{State}
+use Rattle.turns.specs.declared.State.{State}
 use Rattle.walking.specs.Going.{CountBy, Going, MayClose}
 
 -- before the first result the number of ordinates asked for does not matter

@@ -5,9 +5,9 @@ use mathlib.Core.List.{List, []}
 use lib.ListN.{length, replicate}
 use Rattle.meaning.specs.Run.{worked, workSize}
 use Rattle.closing.specs.BetweenBlocks.{carried-none, held-none}
-use Rattle.walking.specs.declared.State.{State}
+use Rattle.turns.specs.declared.State.{State}
 use Rattle.walking.specs.Going.{Going}
-use Rattle.walking.specs.Turns.{StateBegins}
+use Rattle.turns.specs.Turns.{StateBegins}
 
 module _ (deck : List ℕ) (named : ℕ) (s : State) (work ordinates records cards : List ℕ) where
   pub starts : StateBegins s cards → workSize ≤ length work → ordinates ≡ replicate (length ordinates) 0 → records ≡ replicate (length records) 0

@@ -8,7 +8,7 @@ use borrow.Author.Tests.{eqb-true, eqb-false}
 use lib.ListN.{length, drop, replicate, length-append}
 use Rattle.sequences.specs.Choices.{taken, passed}
 use Rattle.sequences.specs.Parts.{part}
-use Rattle.meaning.specs.Words.{_=?_, if_then_else_}
+use Rattle.meaning.specs.Words.{_=?_}
 use Rattle.meaning.specs.Lines.{linesOf}
 use Rattle.meaning.specs.Fields.{Form}
 use Rattle.meaning.specs.Blocks.{Time, Block, Held}
@@ -27,15 +27,15 @@ use Rattle.blocks.specs.Meant.{timeIs, nameIs}
 use Rattle.placing.specs.Readings.{readingIs, readingBy, timeIn, formIn, Ready, openedIn, blockIs}
 use Rattle.stack.specs.declared.Stack.{Stack}
 use Rattle.stack.specs.View.{view, length-held}
-use Rattle.walking.specs.declared.Finished.{Finished}
 use Rattle.telling.specs.LastHeld.{view-last}
 use Rattle.telling.specs.WrittenResult.{copiedFirst}
 use Rattle.closing.specs.BetweenBlocks.{Carried, carried-named, carried-last}
-use Rattle.walking.specs.declared.State.{State}
-use Rattle.walking.specs.declared.Turn.{Turn}
+use Rattle.turns.specs.declared.Finished.{Finished}
+use Rattle.turns.specs.declared.State.{State}
+use Rattle.turns.specs.declared.Turn.{Turn}
+use Rattle.turns.specs.Turns.{GoesOn, copiedLast}
 use Rattle.walking.specs.Events.{open-refused, open-too-many, open-goes, end-refused, end-not-one, end-done}
 use Rattle.walking.specs.Going.{standing, CountBy, Going, DoneIs, ClosedBy}
-use Rattle.walking.specs.Turns.{GoesOn}
 use Rattle.walking.specs.ReadingOn.{Moved, limits, moved}
 use Rattle.walking.specs.OpenClosed.{ClosedWell, closed-number, closed-well}
 
@@ -64,10 +64,7 @@ few-by phase.BeforeTime blocks results depth h = omega arith
 few-by phase.BeforeBlocks blocks results depth h = omega arith
 few-by phase.InBlock blocks results depth h = h .1
 
--- AN ACCEPTED END. If no block is named, the last one's hydrograph, which alone is held, is copied.
-abbrev pub copiedLast : (named nq : ℕ) → (flow ordinates : List ℕ) → List ℕ
-copiedLast named nq flow ordinates = if named =? 0 then copiedFirst nq flow ordinates else ordinates
-
+-- AN ACCEPTED END
 one-up : (named : ℕ) → (named ≡ 0 → ⊥) → 1 ≤ named
 one-up zero h = absurd (h refl)
 one-up (suc named) h = omega arith

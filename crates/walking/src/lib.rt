@@ -1,6 +1,4 @@
 // The walk over a deck: its blocks read one after the other, each closed as the next is opened, and what comes of them.
-mod turns;
-
 ghost use mathlib.Core.Path.{_≡_};
 ghost use Prim.Native.Nat.{_≤_};
 ghost use lib.ListN.{length, replicate};
@@ -10,42 +8,14 @@ ghost use Rattle.records.specs.Rows.{wordsOf};
 ghost use Rattle.blocks.specs.Meant.{timeIs};
 ghost use Rattle.placing.specs.Readings.{blockIs};
 ghost use Rattle.walking.specs.Going.{MayFinish, Finishes, MayClose, ClosedBy, Going, TurnIs, WorkedIs};
-ghost use Rattle.walking.specs.Turns.{StateBegins};
 use placing::Phase;
 use placing::Reading;
 use reading::Event;
 use stack::Stack;
-
-// Where the walk stands between two blocks: the reading, what is held, the place in the deck, the lines passed, and the blocks opened.
-pub struct State {
-    pub reading: Reading,
-    pub held: Stack,
-    pub at: usize,
-    pub line: u64,
-    pub blocks: usize,
-}
-
-// What the work on a deck comes to: the number and the line of a refusal, or the ordinates and the blocks.
-pub struct Worked {
-    pub refused: bool,
-    pub number: u64,
-    pub line: u64,
-    pub nq: usize,
-    pub blocks: usize,
-}
-
-// A turn of the walk: it goes on from a state, or the deck is worked.
-pub struct Turn {
-    pub ended: bool,
-    pub state: State,
-    pub worked: Worked,
-}
-
-// A block finished: the refusal, 0 for none, and what is held.
-pub struct Finished {
-    pub refusal: u64,
-    pub held: Stack,
-}
+use turns::Finished;
+use turns::State;
+use turns::Turn;
+use turns::Worked;
 
 // The open block, before which `k` blocks were closed, closed; and, if it was not refused, its result written.
 fn finish_block(
@@ -111,19 +81,6 @@ fn close_open(
     }
 }
 
-fn first_state(cards: &mut [u64]) -> State
-    requires { ⌜ wordsOf table ≤ length (now cards) ⌝ }
-    ensures { λ s. ⌜ StateBegins s (now (cards .exit)) ⌝ }
-{
-    State {
-        reading: placing::first_reading(cards),
-        held: stack::hold_none(),
-        at: 0,
-        line: 0,
-        blocks: 0,
-    }
-}
-
 // Reads on to the next block's opening or the deck's end, and does what is due there.
 fn step(
     deck: &[u8],
@@ -171,7 +128,7 @@ pub fn walk_deck(
     requires { ⌜ (now ordinates ≡ replicate (length (now ordinates)) 0) × (now records ≡ replicate (length (now records)) 0) ⌝ }
     ensures { λ w. ⌜ WorkedIs (now (deck .entry)) named (length (now (ordinates .entry))) (length (now (records .entry))) w (now (ordinates .exit)) (now (records .exit)) ⌝ }
 {
-    let mut s = first_state(cards);
+    let mut s = turns::first_state(cards);
     loop {
         let t = step(deck, named, s, work, ordinates, records, cards);
         if t.ended {

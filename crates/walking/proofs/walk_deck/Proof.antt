@@ -6,7 +6,7 @@ use mathlib.Core.List.{List}
 use native.Mathlib.Omega.{arith}
 use lib.ListN.{length}
 use borrow.Author.Needs.{needs}
-use Rattle.walking.specs.declared.State.{State}
+use Rattle.turns.specs.declared.State.{State}
 use Rattle.walking.specs.Going.{Going, TurnBy}
 use Rattle.walking.specs.Start.{starts}
 use Rattle.walking.proofs.walk_deck.Statement.{statement}

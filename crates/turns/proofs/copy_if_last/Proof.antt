@@ -3,8 +3,8 @@ use mathlib.Core.Path.{refl}
 use borrow.Author.Tests.{eq-eqb, ne-eqb}
 use borrow.Author.Needs.{needs}
 use Rattle.sequences.specs.Choices.{taken, passed}
-use Rattle.walking.proofs.turns.copy_if_last.Statement.{statement}
-use Rattle.walking.proofs.turns.copy_if_last.Tie as tie
+use Rattle.turns.proofs.copy_if_last.Statement.{statement}
+use Rattle.turns.proofs.copy_if_last.Tie as tie
 
 returns : tie.Need-returns
 returns c = passed _ (ne-eqb (c .before .before .before .args .named) 0 (c .if1 .taken)) refl

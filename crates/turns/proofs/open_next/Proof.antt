@@ -1,8 +1,8 @@
 -- Each way out is one of the contract: the refusal where the block closed, a 201st block, or the next block.
 use native.Mathlib.Omega.{arith}
 use borrow.Author.Needs.{needs}
-use Rattle.walking.proofs.turns.open_next.Statement.{statement}
-use Rattle.walking.proofs.turns.open_next.Tie as tie
+use Rattle.turns.proofs.open_next.Statement.{statement}
+use Rattle.turns.proofs.open_next.Tie as tie
 
 returns : tie.Need-returns
 returns c =

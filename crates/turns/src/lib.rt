@@ -1,26 +1,66 @@
-// The turns of the walk: the deck refused or worked, the next block opened.
-use super::Finished;
-use super::State;
-use super::Turn;
-use super::Worked;
-use blocks::Name;
-use placing::Reading;
-use stack::Stack;
+// The turns of the walk: where it begins, the deck refused or worked, the next block opened.
 ghost use mathlib.Core.Path.{_≡_};
 ghost use mathlib.Core.Bool.{true};
 ghost use Prim.Native.Nat.{_-_, _*_, _≤_};
 ghost use lib.ListN.{length};
 ghost use Rattle.sequences.specs.Parts.{part};
-ghost use Rattle.meaning.specs.Records.{mostOrdinates};
+ghost use Rattle.meaning.specs.Records.{table, mostOrdinates};
 ghost use Rattle.meaning.specs.Run.{mostBlocks};
+ghost use Rattle.records.specs.Rows.{wordsOf};
 ghost use Rattle.stack.specs.View.{Fits};
 ghost use Rattle.placing.specs.Readings.{Ready};
-ghost use Rattle.walking.specs.Turns.{Stops, GoesOn, workedWell};
-ghost use Rattle.walking.specs.Ways.{copiedLast};
-ghost use Rattle.walking.specs.NextTurn.{OpensNext, EndsDeck};
+ghost use Rattle.turns.specs.Turns.{StateBegins, Stops, GoesOn, workedWell, copiedLast, OpensNext, EndsDeck};
+use blocks::Name;
+use placing::Reading;
+use stack::Stack;
+
+// Where the walk stands between two blocks: the reading, what is held, the place in the deck, the lines passed, and the blocks opened.
+pub struct State {
+    pub reading: Reading,
+    pub held: Stack,
+    pub at: usize,
+    pub line: u64,
+    pub blocks: usize,
+}
+
+// What the work on a deck comes to: the number and the line of a refusal, or the ordinates and the blocks.
+pub struct Worked {
+    pub refused: bool,
+    pub number: u64,
+    pub line: u64,
+    pub nq: usize,
+    pub blocks: usize,
+}
+
+// A turn of the walk: it goes on from a state, or the deck is worked.
+pub struct Turn {
+    pub ended: bool,
+    pub state: State,
+    pub worked: Worked,
+}
+
+// A block finished: the refusal, 0 for none, and what is held.
+pub struct Finished {
+    pub refusal: u64,
+    pub held: Stack,
+}
 
 // The most blocks that a deck has.
 const BLOCKS: usize = 200;
+
+// The walk begins: nothing is read, and nothing held.
+pub fn first_state(cards: &mut [u64]) -> State
+    requires { ⌜ wordsOf table ≤ length (now cards) ⌝ }
+    ensures { λ s. ⌜ StateBegins s (now (cards .exit)) ⌝ }
+{
+    State {
+        reading: placing::first_reading(cards),
+        held: stack::hold_none(),
+        at: 0,
+        line: 0,
+        blocks: 0,
+    }
+}
 
 // The deck is refused.
 pub fn stop(s: State, number: u64, line: u64) -> Turn

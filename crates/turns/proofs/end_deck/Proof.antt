@@ -1,7 +1,7 @@
 -- Each way out is one of the contract: the refusal where the block closed, other than one held, or the deck worked.
 use borrow.Author.Needs.{needs}
-use Rattle.walking.proofs.turns.end_deck.Statement.{statement}
-use Rattle.walking.proofs.turns.end_deck.Tie as tie
+use Rattle.turns.proofs.end_deck.Statement.{statement}
+use Rattle.turns.proofs.end_deck.Tie as tie
 
 returns : tie.Need-returns
 returns c =

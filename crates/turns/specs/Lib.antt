@@ -1,0 +1,2 @@
+-- What a turn of the walk leaves.
+pub mod Turns
