@@ -1,7 +1,7 @@
 -- Reading on from one block to the next leaves what is held and what was written as they are, and the count of blocks fits where the reading then stands.
 --     Moved        what holds where a block is opened or the deck ended
 --     moved        and that it does
-use Prim.Native.Nat.{ℕ, _+_, _-_, _≤_}
+use Prim.Native.Nat.{ℕ, _+_, _≤_}
 use mathlib.Core.Path.{_≡_, refl, sym, ap, _∙_, subst}
 use mathlib.Core.List.{List, [], _∷_}
 use native.Mathlib.Omega.{arith}

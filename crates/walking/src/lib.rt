@@ -31,8 +31,7 @@ fn finish_block(
     requires { ⌜ MayFinish r held k (now work) (now cards) ⌝ }
     ensures { λ x. ⌜ Finishes (timeIs (r .time)) (blockIs r (now (cards .entry))) held named k x (now (work .entry)) (now (work .exit)) (now (ordinates .entry)) (now (ordinates .exit)) (now (records .entry)) (now (records .exit)) ⌝ }
 {
-    let time = r.time;
-    let closed = closing::close_block(work, held, time, cards);
+    let closed = closing::close_block(work, held, r.time, cards);
     let next = closed.held;
     let refusal = closed.refusal;
     if refusal != 0 {
@@ -41,9 +40,16 @@ fn finish_block(
             held: next,
         };
     }
-    let name = r.name;
-    let nq = time.ordinates;
-    telling::write_result(name, closed, k, named, nq, work, ordinates, records);
+    telling::write_result(
+        r.name,
+        closed,
+        k,
+        named,
+        r.time.ordinates,
+        work,
+        ordinates,
+        records,
+    );
     Finished {
         refusal,
         held: next,
@@ -94,25 +100,36 @@ fn step(
     requires { ⌜ Going (now deck) named (length (now ordinates)) (length (now records)) s (now work) (now ordinates) (now records) (now cards) ⌝ }
     ensures { λ t. ⌜ TurnIs (now (deck .entry)) named (length (now (ordinates .entry))) (length (now (records .entry))) (s .at) t (now (work .exit)) (now (ordinates .exit)) (now (records .exit)) (now (cards .exit)) ⌝ }
 {
-    let start = s.reading;
-    let got = reading::read_on(deck, s.at, s.line, start, cards);
-    let r = got.reading;
-    let held = s.held;
+    let got = reading::read_on(deck, s.at, s.line, s.reading, cards);
     let event = got.event;
-    match event {
-        Event::Refused(number) => turns::stop(s, number, got.line),
-        Event::Opened => {
-            let name = got.name;
-            let closed = close_open(r, held, s.blocks, named, work, ordinates, records, cards);
-            turns::open_next(s, r, name, got.at, got.line, closed, cards)
-        }
-        Event::Ended => {
-            let time = r.time;
-            let closed = close_open(r, held, s.blocks, named, work, ordinates, records, cards);
-            turns::end_deck(s, time.ordinates, got.line, closed, named, work, ordinates)
-        }
-        Event::Missing => turns::stop(s, 16, 0),
+    let ended = match event {
+        Event::Refused(number) => return turns::stop(s, number, got.line),
+        Event::Opened => false,
+        Event::Ended => true,
+        Event::Missing => return turns::stop(s, 16, 0),
+    };
+    let closed = close_open(
+        got.reading,
+        s.held,
+        s.blocks,
+        named,
+        work,
+        ordinates,
+        records,
+        cards,
+    );
+    if ended {
+        return turns::end_deck(
+            s,
+            got.reading.time.ordinates,
+            got.line,
+            closed,
+            named,
+            work,
+            ordinates,
+        );
     }
+    turns::open_next(s, got.reading, got.name, got.at, got.line, closed, cards)
 }
 
 // The whole deck, block after block. What is lent for results holds zeros before.
@@ -132,10 +149,8 @@ pub fn walk_deck(
     loop {
         let t = step(deck, named, s, work, ordinates, records, cards);
         if t.ended {
-            let w = t.worked;
-            return w;
+            return t.worked;
         }
-        let next = t.state;
-        s = next;
+        s = t.state;
     }
 }

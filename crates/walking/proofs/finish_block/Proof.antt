@@ -18,14 +18,14 @@ within c = rw (c .pre .place) at (c .pre .within)
 
 close-block-requires : tie.Need-close-block-requires
 close-block-requires c κs =
-    let s = c .before .before .before .before .before .before in
+    let s = c .before .before .before .before .before in
     let x = s .args in
     let w = within s in
     (held-within (x .k) (x .held) (x .r .time .ordinates) (x .work .now) (s .pre .few) (s .pre .held), record { time = w .0; words = s .pre .ready .readable; cards = w .1 .cards })
 
 returns : tie.Need-returns
 returns c =
-    let s = c .before .before .before .before .before .before .before .before .before .before .before in
+    let s = c .before .before .before .before .before .before .before .before .before .before in
     let k = c .before .before .before .before .close-block in
     record {
       closed = k .result;
@@ -38,16 +38,16 @@ returns c =
 
 write-result-requires : tie.Need-write-result-requires
 write-result-requires c κs =
-    let s = c .before .before .before .before .before .before .before .before .before .before .before .before .before .before .before in
-    let k = c .before .before .before .before .before .before .before .before .close-block in
-    let keeps = k .ensures [] .keeps (c .before .before .before .before .if1 .left) in
+    let s = c .before .before .before .before .before .before .before .before .before .before .before .before .before in
+    let k = c .before .before .before .before .before .before .before .close-block in
+    let keeps = k .ensures [] .keeps (c .before .before .before .if1 .left) in
     let fits = s .pre .held .fits in
     ((s .pre .few, s .pre .ready .short-name), (keeps .some, record { deep = keeps .deep; ordinates = fits .ordinates; enough = omega (arith, k .kept .0, fits .enough) }))
 
 returns-2 : tie.Need-returns-2
 returns-2 c =
-    let s = c .before .before .before .before .before .before .before .before .before .before .before .before .before .before .before .before .before .before .before .before in
-    let k = c .before .before .before .before .before .before .before .before .before .before .before .before .before .close-block in
+    let s = c .before .before .before .before .before .before .before .before .before .before .before .before .before .before .before .before .before .before in
+    let k = c .before .before .before .before .before .before .before .before .before .before .before .before .close-block in
     let wr = c .before .before .before .before .write-result in
     record {
       closed = k .result;

@@ -1,7 +1,9 @@
 -- Each event is a turn of the walk: a refused line and a missing ZZ stop it, KK and ZZ are turns by their own laws.
 use Prim.Native.Nat.{ℕ, _+_}
 use mathlib.Core.Path.{_≡_, sym, _∙_, subst}
+use mathlib.Core.Bool.{true, false, true≢false, false≢true}
 use mathlib.Core.List.{List}
+use mathlib.Core.Logic.{_⊎_, inl, inr, ⊎-elim}
 use native.Mathlib.Omega.{arith}
 use lib.ListN.{length, drop}
 use borrow.Author.Needs.{needs}
@@ -19,7 +21,7 @@ use Rattle.walking.proofs.step.Tie as tie
 
 -- what was read, where the turn began, and the open block's words then
 abbrev entry : tie.After-read-on → tie.Start
-entry c = c .before .before .before .before .before .before .before .before
+entry c = c .before .before .before .before .before .before .before
 
 abbrev cards : tie.After-read-on → List ℕ
 cards c = c .read-on .last .1 .1 .1 .1 .0
@@ -37,98 +39,104 @@ found c e is = rw is at (c .read-on .ensures .found)
 abbrev Goes-on : tie.After-read-on → Type 0
 Goes-on c = Onward (entry c .args .deck .now) (entry c .args .s .at) (c .read-on .result) (cards c)
 
-on-opened : (c : tie.After-read-on) → c .read-on .result .event ≡ event.Opened → Goes-on c
-on-opened c is = subst (λ (e : Event). OnwardBy e (Goes-on c)) is (c .read-on .ensures .onward)
+goes-by : (c : tie.After-read-on) (e : Event) → c .read-on .result .event ≡ e → OnwardBy e (Goes-on c)
+goes-by c e is = subst (λ (e : Event). OnwardBy e (Goes-on c)) is (c .read-on .ensures .onward)
 
-on-ended : (c : tie.After-read-on) → c .read-on .result .event ≡ event.Ended → Goes-on c
-on-ended c is = subst (λ (e : Event). OnwardBy e (Goes-on c)) is (c .read-on .ensures .onward)
+-- KK OR ZZ, before the open block is closed: what was read, which of the two it was, and that the reading may go on
+abbrev read : tie.At-match-came → tie.After-read-on
+read c = c .before .before .before
 
--- where the open block is closed, before KK and before ZZ: what was read, and that it was KK, or ZZ
-abbrev read-kk : tie.After-open-next-arg → tie.After-read-on
-read-kk c = c .before .before .before .before .before .before .before .before .before .before .before .before .before .before .before .before .before .before .before
+which : (c : tie.At-match-came)
+    → ((read c .read-on .result .event ≡ event.Opened) × (c .match .ended ≡ false)) ⊎ ((read c .read-on .result .event ≡ event.Ended) × (c .match .ended ≡ true))
+which c = ⊎-elim (λ w. inl (w .1 .given .1, w .2)) (λ w. inr (w .1 .given .1, w .2)) (c .match .came)
 
-is-kk : (c : tie.After-open-next-arg) → read-kk c .read-on .result .event ≡ event.Opened
-is-kk c = c .before .before .before .before .before .before .before .before .before .before .before .before .before .enum-told .given .1
+is-kk : (c : tie.At-match-came) → c .match .ended ≡ false → read c .read-on .result .event ≡ event.Opened
+is-kk c h = ⊎-elim (λ w. w .0) (λ w. absurd (true≢false (sym (w .1) ∙ h))) (which c)
 
-abbrev read-zz : tie.After-end-deck-arg2 → tie.After-read-on
-read-zz c = c .before .before .before .before .before .before .before .before .before .before .before .before .before .before .before .before .before .before .before .before
+is-zz : (c : tie.At-match-came) → c .match .ended ≡ true → read c .read-on .result .event ≡ event.Ended
+is-zz c h = ⊎-elim (λ w. absurd (false≢true (sym (w .1) ∙ h))) (λ w. w .0) (which c)
 
-is-zz : (c : tie.After-end-deck-arg2) → read-zz c .read-on .result .event ≡ event.Ended
-is-zz c = c .before .before .before .before .before .before .before .before .before .before .before .before .before .before .enum-told2 .given .1
+onward : (c : tie.At-match-came) → Goes-on (read c)
+onward c = ⊎-elim (λ w. goes-by (read c) event.Opened (w .0)) (λ w. goes-by (read c) event.Ended (w .0)) (which c)
 
 close-open-requires : tie.Need-close-open-requires
 close-open-requires c κs =
-    let p = c .before .before .before .before .before .before .before .before .before .before .before in
+    let m = c .before .before .before .before in
+    let p = read m in
     let x = entry p .args in
-    let is = c .before .before .before .before .before .enum-told .given .1 in
-    may-close (x .deck .now) (x .named) (length (x .ordinates .now)) (length (x .records .now)) (x .s) (x .work .now) (x .ordinates .now) (x .records .now) (x .cards .now) (entry p .pre) _
-    (p .read-on .result .reading) (p .read-on .result .line) _ (cards p) (found p _ is) (on-opened p is .ready)
+    let g = p .read-on .result in
+    let close =
+    may-close (x .deck .now) (x .named) (length (x .ordinates .now)) (length (x .records .now)) (x .s) (x .work .now) (x .ordinates .now) (x .records .now) (x .cards .now)
+    (entry p .pre) in
+    ⊎-elim
+    (λ w. close _ (g .reading) (g .line) _ (cards p) (found p event.Opened (w .0)) (onward m .ready))
+    (λ w. close _ (g .reading) (g .line) _ (cards p) (found p event.Ended (w .0)) (onward m .ready))
+    (which m)
+
+-- the open block closed: what was read, and how it was closed
+abbrev mark : tie.After-slice-known8 → tie.At-match-came
+mark c = c .before .before .before .before .before .before .before .before .before .before .before
+
+abbrev closed : tie.After-slice-known8 → tie.After-close-open
+closed c = c .before .before .before .before .before .before
 
 open-next-requires : tie.Need-open-next-requires
-open-next-requires c κs = let o = on-opened (read-kk c) (is-kk c) in (o .letters, o .ready)
-
-close-open-requires-2 : tie.Need-close-open-requires-2
-close-open-requires-2 c κs =
-    let p = c .before .before .before .before .before .before .before .before .before .before .before in
-    let x = entry p .args in
-    let is = c .before .before .before .before .before .enum-told2 .given .1 in
-    may-close (x .deck .now) (x .named) (length (x .ordinates .now)) (length (x .records .now)) (x .s) (x .work .now) (x .ordinates .now) (x .records .now) (x .cards .now) (entry p .pre) _
-    (p .read-on .result .reading) (p .read-on .result .line) _ (cards p) (found p _ is) (on-ended p is .ready)
+open-next-requires c κs = let o = onward (mark (c .before .before)) in (o .letters, o .ready)
 
 end-deck-requires : tie.Need-end-deck-requires
 end-deck-requires c κs =
-    let p = read-zz c in
-    let long = c .before .before .before .before .before .before .before .before .close-open2 .kept .1 .1 .1 .1 .0 in
-    let o = on-ended p (is-zz c) in
-    record { deep = omega arith; ordinates = o .ready .few-ordinates; enough = omega (arith, long, entry p .pre .held .fits .enough) }
+    let m = mark (c .before .before .before) in
+    let long = closed (c .before .before .before) .close-open .kept .1 .1 .1 .1 .0 in
+    record { deep = omega arith; ordinates = onward m .ready .few-ordinates; enough = omega (arith, long, entry (read m) .pre .held .fits .enough) }
 
 returns : tie.Need-returns
 returns c =
-    let p = c .before .before .before .before .before .before .before .before in
+    let p = c .before .before .before .before .before .before in
     let f = found p _ (c .before .before .event .given .1) in
     rw (c .stop .ensures .ended, c .stop .ensures .worked) (sym (entry p .pre .walked) ∙ walk-refused _ _ _ _ _ (f .0) (p .read-on .result .line) (f .1) (f .2))
 
-same-length-5 : tie.Need-same-length-5
-same-length-5 c = c .before .before .open-next .kept .1 .1 .1 .1 .1 .1 .0 ∙ cards-long (read-kk (c .before .before .before))
-
 returns-2 : tie.Need-returns-2
 returns-2 c =
-    let p = read-kk (c .before .before .before) in
+    let p = c .before .before .before .before .before in
+    let f = found p _ (c .before .enum-told3 .given .1) in
+    rw (c .stop2 .ensures .ended, c .stop2 .ensures .worked) (sym (entry p .pre .walked) ∙ walk-missing _ _ _ _ (f .0) (f .1) (f .2))
+
+same-length-6 : tie.Need-same-length-6
+same-length-6 c = cards-long (read (mark (c .before .before .before .before .before .before)))
+
+returns-3 : tie.Need-returns-3
+returns-3 c =
+    let m = mark (c .before .before .before .before .before .before) in
+    let p = read m in
     let x = entry p .args in
-    let is = is-kk (c .before .before .before) in
-    let o = on-opened p is in
-    let k = c .before .before .before .before .before .before .before .before .before .before .close-open in
+    let is = is-zz m (c .before .before .before .before .before .if1 .taken) in
+    let k = closed (c .before .before .before .before .before .before) .close-open in
+    let t = c .before .before .end-deck in
+    zz-turn (x .deck .now) (x .named) (length (x .ordinates .now)) (length (x .records .now)) (x .s) (x .work .now) (x .ordinates .now) (x .records .now) (x .cards .now) (entry p .pre)
+    (p .read-on .result .reading) (p .read-on .result .line) (p .read-on .result .at) (cards p) (onward m .ready) (k .result) _ _ _ (k .ensures)
+    (k .kept .1 .1 .1 .1 .0) (k .kept .1 .1 .1 .1 .1 .0) (k .kept .1 .1 .1 .1 .1 .1 .0) (t .result) (found p _ is) _ (t .ensures)
+
+same-length-10 : tie.Need-same-length-10
+same-length-10 c = c .before .before .open-next .kept .1 .1 .1 .1 .1 .1 .0 ∙ cards-long (read (mark (c .before .before .before .before .before)))
+
+returns-4 : tie.Need-returns-4
+returns-4 c =
+    let m = mark (c .before .before .before .before .before) in
+    let p = read m in
+    let x = entry p .args in
+    let is = is-kk m (c .before .before .before .before .if1 .left) in
+    let o = onward m in
+    let k = closed (c .before .before .before .before .before) .close-open in
     let t = c .before .before .open-next in
     kk-turn (x .deck .now) (x .named) (length (x .ordinates .now)) (length (x .records .now)) (x .s) (x .work .now) (x .ordinates .now) (x .records .now) (x .cards .now) (entry p .pre)
     (p .read-on .result .reading) (p .read-on .result .line) (p .read-on .result .at) (cards p) (o .ready) (k .result) _ _ _ (k .ensures)
     (k .kept .1 .1 .1 .1 .0) (k .kept .1 .1 .1 .1 .1 .0) (k .kept .1 .1 .1 .1 .1 .1 .0) (t .result) (p .read-on .result .name) (found p _ is) (o .within) (o .counted) (o .forth) _ (t .ensures)
 
-same-length-9 : tie.Need-same-length-9
-same-length-9 c = cards-long (read-zz (c .before .before .before))
-
-returns-3 : tie.Need-returns-3
-returns-3 c =
-    let p = read-zz (c .before .before .before) in
-    let x = entry p .args in
-    let is = is-zz (c .before .before .before) in
-    let o = on-ended p is in
-    let k = c .before .before .before .before .before .before .before .before .before .before .before .close-open2 in
-    let t = c .before .before .end-deck in
-    zz-turn (x .deck .now) (x .named) (length (x .ordinates .now)) (length (x .records .now)) (x .s) (x .work .now) (x .ordinates .now) (x .records .now) (x .cards .now) (entry p .pre)
-    (p .read-on .result .reading) (p .read-on .result .line) (p .read-on .result .at) (cards p) (o .ready) (k .result) _ _ _ (k .ensures)
-    (k .kept .1 .1 .1 .1 .0) (k .kept .1 .1 .1 .1 .1 .0) (k .kept .1 .1 .1 .1 .1 .1 .0) (t .result) (found p _ is) _ (t .ensures)
-
-returns-4 : tie.Need-returns-4
-returns-4 c =
-    let p = c .before .before .before .before .before .before .before in
-    let f = found p _ (c .before .enum-told3 .given .1) in
-    rw (c .stop2 .ensures .ended, c .stop2 .ensures .worked) (sym (entry p .pre .walked) ∙ walk-missing _ _ _ _ (f .0) (f .1) (f .2))
-
 pub step-spec : {M : Type 1} → statement M
 step-spec =
     tie.close
     (tie.spec
-    (λ c κs. search needs) (λ c. search needs) (λ c κs. search needs) (λ c. search needs) close-open-requires open-next-requires (λ c. search needs)
-    close-open-requires-2 end-deck-requires (λ c. search needs) (λ c κs. search needs) (λ c. search needs) returns (λ c. search needs)
-    (λ c. search needs) (λ c. search needs) same-length-5 returns-2 (λ c. search needs) (λ c. search needs) (λ c. search needs) same-length-9
-    returns-3 (λ c. search needs) returns-4)
+    (λ c κs. search needs) (λ c. search needs) (λ c κs. search needs) (λ c. search needs) returns
+    (λ c. search needs) (λ c. search needs) (λ c. search needs) (λ c κs. search needs) (λ c. search needs) returns-2
+    close-open-requires end-deck-requires (λ c. search needs) (λ c. search needs) (λ c. search needs) same-length-6 returns-3
+    open-next-requires (λ c. search needs) (λ c. search needs) (λ c. search needs) same-length-10 returns-4)
