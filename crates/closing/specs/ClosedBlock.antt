@@ -20,8 +20,8 @@ use Rattle.limits.specs.Within.{TimeWithin}
 use Rattle.stack.specs.declared.Stack.{Stack}
 use Rattle.stack.specs.View.{view, length-held}
 use Rattle.stack.specs.Limits.{Within}
-use Rattle.results.specs.declared.Summary.{Summary}
-use Rattle.results.specs.Summary.{summaryOf}
+use Rattle.summary.specs.declared.Summary.{Summary}
+use Rattle.summary.specs.Summary.{summaryOf}
 use Rattle.shaping.specs.Limits.{CardsWithin}
 use Rattle.shaping.specs.Shapes.{takes-by, shaped-passes}
 use Rattle.making.specs.Made.{stackBy, wordsBy, Makes}

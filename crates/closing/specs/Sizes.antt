@@ -17,7 +17,7 @@ use Rattle.limits.specs.Within.{TimeWithin}
 use Rattle.runoff.specs.Limits.{runoff-within, inflow-within}
 use Rattle.stack.specs.Limits.{Within, within-drop, total-within, within-routed, area-added, area-routed}
 use Rattle.stack.specs.Kinds.{blockLoss, after-basin, after-inflow, after-confluence, after-reach}
-use Rattle.results.specs.Peaks.{all-below-peak}
+use Rattle.summary.specs.Peaks.{all-below-peak}
 use Rattle.shaping.specs.Limits.{CardsWithin}
 use Rattle.shaping.specs.Shapes.{Shaped, none-refused, reach-shaped}
 use Rattle.making.specs.Kinds.{storm-read}

@@ -8,8 +8,8 @@ ghost use Rattle.shaping.specs.Limits.{Read};
 ghost use Rattle.making.specs.Made.{HeldWithin};
 ghost use Rattle.closing.specs.ClosedBlock.{refusedBlock, Closes};
 use blocks::Time;
-use results::Summary;
 use stack::Stack;
+use summary::Summary;
 use telling::Closed;
 
 // 100,000 cfs.

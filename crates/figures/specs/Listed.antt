@@ -18,7 +18,7 @@ use Rattle.meaning.specs.Blocks.{Kind, NoKind, Basin, Inflow, Confluence, Reach
 use Rattle.meaning.specs.Results.{Result, peakOf, intervalOf, sumOf, littleEndian, blanksAfter, recordOf}
 use Rattle.meaning.specs.Listing.{whole, twoPlaces, rounded, listed}
 use Rattle.sequences.specs.Parts.{part}
-use Rattle.results.specs.Peaks.{interval-bound, sum-bound}
+use Rattle.summary.specs.Peaks.{interval-bound, sum-bound}
 use Rattle.results.specs.Record.{recordBytes, record-of, length-blanksAfter}
 use Rattle.slices.specs.Bytes.{fromLittleEndian, read-back}
 use Rattle.text.specs.Trim.{trim-name}

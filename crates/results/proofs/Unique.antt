@@ -2,13 +2,8 @@
 use mathlib.Core.Path.{_≡_}
 use denote.Ref.{now}
 use Rattle.sequences.specs.Contracts.{Once}
-use Rattle.results.proofs.summarize.Kinds as summarize
-use Rattle.results.proofs.summarize.Reads as summarize-says
 use Rattle.results.proofs.record_at.Kinds as record-at
 use Rattle.results.proofs.record_at.Reads as record-at-says
-
-pub one-summarize : Once summarize.ps summarize.r summarize-says.Post (λ κs x y e f. x ≡ y)
-one-summarize κs a x y e f p q = cc
 
 pub one-record-at : Once record-at.ps record-at.r record-at-says.Post (λ κs x y e f. now (e .0) ≡ now (f .0))
 one-record-at κs a x y e f p q = cc

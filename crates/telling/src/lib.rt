@@ -7,11 +7,11 @@ ghost use Rattle.sequences.specs.Parts.{part};
 ghost use Rattle.meaning.specs.Records.{mostOrdinates};
 ghost use Rattle.blocks.specs.Meant.{nameIs};
 ghost use Rattle.stack.specs.View.{Fits};
-ghost use Rattle.results.specs.Summary.{summaryOf};
+ghost use Rattle.summary.specs.Summary.{summaryOf};
 ghost use Rattle.telling.specs.WrittenResult.{recordTold, recordPut, copiedFirst, copiedNamed};
 use blocks::Name;
-use results::Summary;
 use stack::Stack;
+use summary::Summary;
 
 // A block closed: the refusal by 9 to 13, 0 for none; then the number of its kind, its area and the summary of its hydrograph, which is the last held.
 pub struct Closed {
@@ -46,7 +46,7 @@ pub fn summarize_last(work: &[u64], held: Stack, nq: usize) -> Summary
     ensures { λ r. ⌜ r ≡ summaryOf (part (mostOrdinates * (held .depth - 1)) nq (now (work .entry))) ⌝ }
 {
     let p = last_place(held);
-    results::summarize(&work[p..p + nq])
+    summary::summarize(&work[p..p + nq])
 }
 
 // The record of block `k`, counted from 0, where there is room for it: that there is none is found out only at the end.

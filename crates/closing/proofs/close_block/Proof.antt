@@ -14,8 +14,8 @@ use Rattle.blocks.specs.Meant.{timeIs}
 use Rattle.blocks.specs.Cards.{blockOf}
 use Rattle.blocks.specs.Values.{block-long, values-few}
 use Rattle.stack.specs.View.{Fits, view}
-use Rattle.results.specs.declared.Summary.{Summary}
-use Rattle.results.specs.Summary.{summaryOf}
+use Rattle.summary.specs.declared.Summary.{Summary}
+use Rattle.summary.specs.Summary.{summaryOf}
 use Rattle.telling.specs.LastHeld.{Last}
 use Rattle.closing.specs.ClosedBlock.{closes-by-shape, made-last, made-deep, made-within, closes-by-flow, closes-held}
 use Rattle.closing.proofs.close_block.Statement.{statement}

@@ -1,7 +1,7 @@
 -- `telling::summarize_last` meets its contract: the part lent is the words of the last place.
 use native.Mathlib.Omega.{arith}
 use borrow.Author.Needs.{needs}
-use Rattle.results.specs.Summary.{summaryOf}
+use Rattle.summary.specs.Summary.{summaryOf}
 use Rattle.telling.specs.LastHeld.{lent-by, lent-up}
 use Rattle.telling.proofs.summarize_last.Statement.{statement}
 use Rattle.telling.proofs.summarize_last.Tie as tie
