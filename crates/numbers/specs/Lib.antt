@@ -1,6 +1,5 @@
 -- How a field's bytes are read as a number, and that this is the number that the field holds.
 pub mod Reading
 pub mod Digits
-pub mod Units
 pub mod Decimals
 pub mod FieldNumbers

@@ -10,17 +10,10 @@ use Rattle.sequences.specs.Runs.{run}
 use Rattle.numbers.specs.declared.Digits.{Digits}
 use Rattle.numbers.specs.declared.Number.{Number}
 use Rattle.numbers.specs.declared.Number.the-variants.{NoNumber, Decimal}
-use Rattle.numbers.specs.declared.Value.{Value}
-use Rattle.numbers.specs.declared.Value.the-variants.{Malformed, Negative, Units}
 
 abbrev pub numberIs : Number → meaning.Number
 numberIs NoNumber = meaning.NoNumber
 numberIs (Decimal minus digits places) = meaning.Decimal minus digits places
-
-abbrev pub valueIs : Value → meaning.Value
-valueIs Malformed = meaning.Malformed
-valueIs Negative = meaning.Negative
-valueIs (Units v) = meaning.Units v
 
 unfoldable pub signLength : ℕ → ℕ
 signLength b = if isSign b then 1 else 0

@@ -1,22 +1,15 @@
 // Numbers as fields hold them: an optional sign, a run of digits, an optional point and a second run. What is read is the value and the places as
-// written; only `in_units` knows how many places a field allows.
+// written; how many places a field allows is not told here.
 ghost use mathlib.Core.Path.{_≡_};
 ghost use Prim.Native.Nat.{_+_, _^_, _≤_, _<_};
 ghost use lib.ListN.{length};
-ghost use Rattle.meaning.specs.Numbers.{numberOf, decimalOf, inUnits};
-ghost use Rattle.numbers.specs.Reading.{numberIs, valueIs, signLength, digitsFrom, counted};
+ghost use Rattle.meaning.specs.Numbers.{numberOf, decimalOf};
+ghost use Rattle.numbers.specs.Reading.{numberIs, signLength, digitsFrom, counted};
 
 // Nothing that is a number; or whether below 0, the digits and how many of them stand behind the point.
 pub enum Number {
     NoNumber,
     Decimal(bool, u64, u64),
-}
-
-// A number in units of the last place that its field allows.
-pub enum Value {
-    Malformed,
-    Negative,
-    Units(u64),
 }
 
 // A run of digits: where it ends, and the number that it reads on to.
@@ -110,44 +103,4 @@ pub fn read_number(f: &[u8]) -> Number
     let b = f[0];
     let at = sign_length(b);
     read_unsigned(b == 0x2D, &f[at..])
-}
-
-fn ten_to(k: u64) -> u64
-    requires { ⌜ k ≤ 4 ⌝ }
-    ensures { λ r. ⌜ r ≡ 10 ^ k ⌝ }
-{
-    match k {
-        0 => 1,
-        1 => 10,
-        2 => 100,
-        3 => 1000,
-        _ => 10000,
-    }
-}
-
-// A number in units of the last of the places allowed.
-fn in_units(allowed: u64, minus: bool, digits: u64, places: u64) -> Value
-    requires { ⌜ (allowed ≤ 4) × (digits < 10 ^ 9) ⌝ }
-    ensures { λ r. ⌜ valueIs r ≡ inUnits allowed (numberIs (Number.Decimal minus digits places)) ⌝ }
-{
-    if allowed < places {
-        return Value::Malformed;
-    }
-    if minus {
-        if 0 < digits {
-            return Value::Negative;
-        }
-    }
-    Value::Units(digits * ten_to(allowed - places))
-}
-
-// The value of a field that allows so many places.
-pub fn read_value(f: &[u8], allowed: u64) -> Value
-    requires { ⌜ allowed ≤ 4 ⌝ }
-    ensures { λ r. ⌜ valueIs r ≡ inUnits allowed (numberOf (now (f .entry))) ⌝ }
-{
-    match read_number(f) {
-        Number::NoNumber => Value::Malformed,
-        Number::Decimal(minus, digits, places) => in_units(allowed, minus, digits, places),
-    }
 }

@@ -5,9 +5,9 @@ ghost use mathlib.Core.Path.{_≡_};
 ghost use mathlib.Core.Bool.{not};
 ghost use Rattle.meaning.specs.Words.{_=?_};
 ghost use Rattle.meaning.specs.Records.{isMalformed, isOutside, unitsOf, faultyField, outsideField, valueOf};
-ghost use Rattle.numbers.specs.Reading.{valueIs};
+ghost use Rattle.amounts.specs.Values.{valueIs};
 ghost use Rattle.rules.specs.Rules.{ruleBy, FieldIs, WordIs, FewPlaces};
-use numbers::Value;
+use amounts::Value;
 
 // What a field may hold: nothing; anything, since it is not read; a number with so many places, from a lowest to a highest value; or a word of so many characters,
 // likewise, behind the number by which another one is refused.
@@ -78,7 +78,7 @@ pub fn read_field(r: Rule, f: &[u8]) -> Field
             Field::Value(0, false)
         }
         Rule::NotRead => Field::Value(0, false),
-        Rule::Limited(places, low, high) => limit_value(numbers::read_value(f, places), low, high),
+        Rule::Limited(places, low, high) => limit_value(amounts::read_value(f, places), low, high),
         Rule::Worded(refusal, most, low, high) => {
             limit_word(words::read_word(f, most), refusal, low, high)
         }

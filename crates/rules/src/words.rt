@@ -1,9 +1,9 @@
 // Words as fields hold them: a word is the number of its bytes, the first the highest.
-use numbers::Value;
+use amounts::Value;
 ghost use mathlib.Core.Path.{_≡_};
 ghost use Prim.Native.Nat.{_≤_};
 ghost use Rattle.meaning.specs.Records.{wordIn};
-ghost use Rattle.numbers.specs.Reading.{valueIs};
+ghost use Rattle.amounts.specs.Values.{valueIs};
 
 // The word in a field of at most so many characters. Eight bytes at most, so that the number fits.
 pub fn read_word(f: &[u8], most: u64) -> Value

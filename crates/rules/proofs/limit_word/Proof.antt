@@ -1,6 +1,6 @@
 -- What a number of those limits would be told of the word: malformed or outside, it is another word; else it is kept.
 use borrow.Author.Needs.{needs}
-use Rattle.numbers.specs.Reading.{valueIs}
+use Rattle.amounts.specs.Values.{valueIs}
 use Rattle.rules.specs.Rules.{faulty-other, outside-other, inside-kept}
 use Rattle.rules.proofs.limit_word.Statement.{statement}
 use Rattle.rules.proofs.limit_word.Tie as tie

@@ -3,9 +3,9 @@ use borrow.Author.Needs.{needs}
 use native.Mathlib.Omega.{arith}
 use mathlib.Core.Logic.{⊎-elim}
 use Prim.Native.Nat.{_-_}
-use Rattle.numbers.specs.Units.{too-many-places, below-zero, not-below, minus-zero, units-below}
-use Rattle.numbers.proofs.in_units.Statement.{statement}
-use Rattle.numbers.proofs.in_units.Tie as tie
+use Rattle.amounts.specs.Units.{too-many-places, below-zero, not-below, minus-zero, units-below}
+use Rattle.amounts.proofs.in_units.Statement.{statement}
+use Rattle.amounts.proofs.in_units.Tie as tie
 
 returns : tie.Need-returns
 returns c = let a = c .before .args in too-many-places (a .allowed) (a .minus) (a .digits) (a .places) (c .if1 .taken)

@@ -2,9 +2,9 @@
 use borrow.Author.Needs.{needs}
 use mathlib.Core.Path.{_∙_, ap}
 use Rattle.meaning.specs.Numbers.{inUnits}
-use Rattle.numbers.specs.FieldNumbers.{number-small}
-use Rattle.numbers.proofs.read_value.Statement.{statement}
-use Rattle.numbers.proofs.read_value.Tie as tie
+use Rattle.amounts.specs.SmallNumbers.{number-small}
+use Rattle.amounts.proofs.read_value.Statement.{statement}
+use Rattle.amounts.proofs.read_value.Tie as tie
 
 in-units-requires : tie.Need-in-units-requires
 in-units-requires c κs =

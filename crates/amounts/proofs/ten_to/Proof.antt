@@ -1,8 +1,8 @@
 -- Each arm's number is the power that its key names; the last arm's key is 4.
 use native.Mathlib.Omega.{arith}
 use mathlib.Core.Path.{_≡_}
-use Rattle.numbers.proofs.ten_to.Statement.{statement}
-use Rattle.numbers.proofs.ten_to.Tie as tie
+use Rattle.amounts.proofs.ten_to.Statement.{statement}
+use Rattle.amounts.proofs.ten_to.Tie as tie
 
 returns : tie.Need-returns
 returns c = rw (c .match .keys1) (omega arith)
