@@ -1,7 +1,6 @@
 -- A turn of the loop over lines: what a line does carries the reading on, or is what was looked for.
 --     AtLine         what a turn knows of its line
 --     goes, refuses, opens-block, ends-deck    the four things that a line can do
---     line-record    a line that holds a record
 --     pass-read      a pass over its fields that met no fault
 --     pass-fault     and one that met one
 use Prim.Native.Nat.{ℕ, zero, suc, _+_, _-_}
@@ -16,15 +15,11 @@ use Rattle.meaning.specs.Records as records
 use Rattle.meaning.specs.Records.{Item, Row, rulesIn, rulesOf, timeRules, filledUp, valueFields, badName, ruleAt, faultyField, anyField, anyFaulty}
 use Rattle.meaning.specs.Blocks.{Time}
 use Rattle.meaning.specs.Run as run
-use Rattle.meaning.specs.Run.{Event, Refuse, Go, Open, End, unless, timeRefusal, itemRefusal, nameRefusal, readRecord, readBy, readLine}
+use Rattle.meaning.specs.Run.{Event, Refuse, Go, Open, End, unless, timeRefusal, itemRefusal, nameRefusal, readLine}
 use Rattle.events.specs.NextEvent.{Found, Missing, Met, metBy, nextEvent}
 use Rattle.lines.specs.First.{FairAt, ForeignAt}
 use Rattle.fields.specs.Spans.{formOf, firstPlace}
-use Rattle.identifiers.specs.declared.Head.{Head}
-use Rattle.identifiers.specs.declared.Head.the-variants as head
-use Rattle.identifiers.specs.declared.Record.{Record}
-use Rattle.identifiers.specs.Heads.{recordIs, headIs, plainHead}
-use Rattle.identifiers.specs.Passed.{passed-head, foreign-head}
+use Rattle.identifiers.specs.Passed.{foreign-head}
 use Rattle.records.specs.Rows.{fieldRow, rulesBy, block-row, few-rules, spanIn}
 use Rattle.records.specs.Blanks.{blank-listed}
 use Rattle.blocks.specs.Meant.{timeIs, nameIs}
@@ -35,8 +30,9 @@ use Rattle.scanning.specs.WholeLine.{Fresh, LineRead, valueFieldsIn, fields-in,
 use Rattle.placing.specs.declared.Phase.{Phase}
 use Rattle.placing.specs.declared.Phase.the-variants as phase
 use Rattle.placing.specs.declared.Reading.{Reading}
-use Rattle.placing.specs.Readings.{readingBy, readingIs, blockIs, formIn, inForm, openedIn, Ready}
+use Rattle.placing.specs.Readings.{readingBy, readingIs, openedIn, Ready}
 use Rattle.placing.specs.Places.{Due, fieldsEvent, nameEvent}
+use Rattle.sorting.specs.Sorted.{withFree}
 
 -- At `at` the line from there to `end` is the next, behind n lines; the reading stands at q, and comes to f.
 pub record AtLine (s : List ℕ) (at end next n : ℕ) (q : run.Reading) (f : Found) : Type 0 where
@@ -65,20 +61,6 @@ module _ {s : List ℕ} {at end next n : ℕ} {q : run.Reading} {f : Found} (t :
 
   pub ends-deck : (τ : Time) → readLine q line ≡ End τ → f ≡ Met (End τ) q (n + 1) rest
   ends-deck τ e = sym (rw e at turned)
-
-  -- by the line's head
-  headed : (h : Head) → headIs h ≡ plainHead line → readLine q line ≡ readBy (headIs h) q line
-  unfolding readLine
-  headed h e = rw (passed-head line (t .fair .sound), ← e)
-
-  pub line-skipped : (h : Head) → headIs h ≡ plainHead line → h ≡ head.Skipped → readLine q line ≡ Go q
-  line-skipped h e z = headed h e ∙ rw z
-
-  pub line-unknown : (h : Head) → headIs h ≡ plainHead line → h ≡ head.Unknown → readLine q line ≡ Refuse 4
-  line-unknown h e z = headed h e ∙ rw z
-
-  pub line-record : (h : Head) (k : Record) → headIs h ≡ plainHead line → h ≡ head.Holds k → readLine q line ≡ readRecord q line (recordIs k)
-  line-record h k e z = headed h e ∙ rw z
 
 -- a foreign line
 pub foreign-found : (s : List ℕ) (at n : ℕ) (q : run.Reading) (f : Found) → ForeignAt s at → nextEvent (linesOf (drop at s)) q (n + 1) ≡ f
@@ -126,27 +108,8 @@ pub fault-event : (item : Item) (r : Reading) (w : List ℕ) (fs : List (List �
 fault-event item r w fs due e = fault-by (r .phase) item (timeIs (r .time)) (formOf (r .free)) (nameIs (r .name)) w fs due e
 
 -- THE READING IN ANOTHER FORM
-abbrev pub withFree : Reading → Bool → Reading
-withFree r free = record { phase = r .phase; free = free; time = r .time; name = r .name }
-
-pub in-form : (r : Reading) (free : Bool) (w : List ℕ) → readingIs (withFree r free) w ≡ inForm (formOf free) (readingIs r w)
-in-form r free w = by (r .phase)
-  where
-    by : (p : Phase) → readingBy p (timeIs (r .time)) (formOf free) (blockIs r w) ≡ inForm (formOf free) (readingBy p (timeIs (r .time)) (formOf (r .free)) (blockIs r w))
-    by phase.BeforeTime = refl
-    by phase.BeforeBlocks = refl
-    by phase.InBlock = refl
-
 pub ready-form : {r : Reading} {w : List ℕ} (free : Bool) → Ready r w → Ready (withFree r free) w
 ready-form free k = record { few-ordinates = k .few-ordinates; short-name = k .short-name; readable = k .readable; counted = k .counted }
-
-pub form-in : (r : Reading) (w : List ℕ) → formIn (readingIs r w) ≡ formOf (r .free)
-form-in r w = by (r .phase)
-  where
-    by : (p : Phase) → formIn (readingBy p (timeIs (r .time)) (formOf (r .free)) (blockIs r w)) ≡ formOf (r .free)
-    by phase.BeforeTime = refl
-    by phase.BeforeBlocks = refl
-    by phase.InBlock = refl
 
 -- NAMES
 pub name-bad : (q : run.Reading) (name : List ℕ) → badName name ≡ true → nameEvent q name ≡ Refuse 6

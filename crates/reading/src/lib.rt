@@ -4,10 +4,9 @@ ghost use lib.ListN.{length};
 ghost use Rattle.placing.specs.Readings.{readingIs, Ready};
 ghost use Rattle.reading.specs.Found.{Gets};
 use blocks::Name;
-use identifiers::Head;
-use placing::Placed;
 use placing::Reading;
 use scanning::Scan;
+use sorting::Sorted;
 
 // What reading on has come to: a line refused, a block opened, the deck ended; or no line is left.
 pub enum Event {
@@ -48,79 +47,66 @@ pub fn read_on(s: &[u8], from: usize, before: u64, start: Reading, cards: &mut [
         n += 1;
         if fair {
             let l = &s[begin..end];
-            match identifiers::head_of(l) {
-                Head::Skipped => continue 'line,
-                Head::Unknown => {
-                    event = Event::Refused(4);
+            match sorting::sort_line(r, cards, l) {
+                Sorted::Refused(number) => {
+                    event = Event::Refused(number);
                     break 'line;
                 }
-                Head::Holds(k) => match placing::place_record(r, cards, k) {
-                    Placed::Misplaced => {
-                        event = Event::Refused(5);
+                Sorted::Passed(free) => {
+                    r.free = free;
+                    continue 'line;
+                }
+                Sorted::Named => {
+                    let label = placing::read_name(r.free, l);
+                    if label.bad {
+                        event = Event::Refused(6);
                         break 'line;
                     }
-                    Placed::Passed(free) => {
-                        r.free = free;
-                        continue 'line;
-                    }
-                    Placed::Named => {
-                        let label = placing::read_name(r.free, l);
-                        if label.bad {
-                            event = Event::Refused(6);
-                            break 'line;
-                        }
-                        let given = label.name;
-                        name = given;
-                        event = Event::Opened;
-                        break 'line;
-                    }
-                    Placed::Last => {
-                        event = Event::Ended;
-                        break 'line;
-                    }
-                    Placed::Fields(item) => {
-                        let free = r.free;
-                        let named = records::named_fields(item);
-                        let mut c = fields::first_place(free, l);
-                        let mut i: usize = 0;
-                        let mut scan = Scan {
-                            count: 0,
-                            outside: false,
-                        };
-                        loop {
-                            if scanning::is_left(l.len(), c, i, named) {
-                                let span = scanning::next_span(free, l, i, c);
-                                let a = span.from;
-                                let e = span.to;
-                                let noted = scanning::note_field(
-                                    &mut values,
-                                    scan,
-                                    item,
-                                    i,
-                                    &l[a..e],
-                                );
-                                if noted.faulty {
-                                    event = Event::Refused(6);
-                                    break 'line;
-                                }
-                                let kept = noted.scan;
-                                scan = kept;
-                                i += 1;
-                                c = span.next;
-                            } else {
-                                let x = placing::take_line(r, item, &values, scan, cards);
-                                let refusal = x.refusal;
-                                if refusal != 0 {
-                                    event = Event::Refused(refusal);
-                                    break 'line;
-                                }
-                                let next = x.reading;
-                                r = next;
-                                continue 'line;
+                    let given = label.name;
+                    name = given;
+                    event = Event::Opened;
+                    break 'line;
+                }
+                Sorted::Last => {
+                    event = Event::Ended;
+                    break 'line;
+                }
+                Sorted::Fields(item) => {
+                    let free = r.free;
+                    let named = records::named_fields(item);
+                    let mut c = fields::first_place(free, l);
+                    let mut i: usize = 0;
+                    let mut scan = Scan {
+                        count: 0,
+                        outside: false,
+                    };
+                    loop {
+                        if scanning::is_left(l.len(), c, i, named) {
+                            let span = scanning::next_span(free, l, i, c);
+                            let a = span.from;
+                            let e = span.to;
+                            let noted = scanning::note_field(&mut values, scan, item, i, &l[a..e]);
+                            if noted.faulty {
+                                event = Event::Refused(6);
+                                break 'line;
                             }
+                            let kept = noted.scan;
+                            scan = kept;
+                            i += 1;
+                            c = span.next;
+                        } else {
+                            let x = placing::take_line(r, item, &values, scan, cards);
+                            let refusal = x.refusal;
+                            if refusal != 0 {
+                                event = Event::Refused(refusal);
+                                break 'line;
+                            }
+                            let next = x.reading;
+                            r = next;
+                            continue 'line;
                         }
                     }
-                },
+                }
             }
         } else {
             event = Event::Refused(3);

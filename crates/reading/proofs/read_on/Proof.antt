@@ -1,7 +1,7 @@
 -- The outer invariant: reading on from here, behind the lines passed, comes to what reading on from the start comes to. The inner one: noting the fields that are
 -- left, behind those noted, gives what noting all of them gives, and the same faults. Each way out of a line is then one law of what the line does.
 mod Points
-use Prim.Native.Nat.{_-_, _≤_}
+use Prim.Native.Nat.{_≤_}
 use mathlib.Core.Path.{_≡_, refl, sym, ap, _∙_}
 use mathlib.Core.Bool.{true}
 use mathlib.Core.List.{[]}
@@ -17,10 +17,10 @@ use Rattle.records.specs.Rows.{rulesBy}
 use Rattle.scanning.specs.FieldsLeft.{left-less, left-near}
 use Rattle.reading.specs.declared.Event.the-variants as event
 use Rattle.placing.specs.Places.{due-known}
-use Rattle.reading.specs.AtLine.{goes, opens-block, ends-deck, line-skipped, line-unknown, foreign-found, none-found, pass-fault, fault-event, in-form, ready-form, name-bad, name-good, unless-met, unless-none, fault-here, fault-later, scan-later}
+use Rattle.reading.specs.AtLine.{goes, opens-block, ends-deck, foreign-found, none-found, pass-fault, fault-event, ready-form, name-bad, name-good, unless-met, unless-none, fault-here, fault-later, scan-later}
 use Rattle.reading.proofs.read_on.Statement.{statement}
 use Rattle.reading.proofs.read_on.Tie as tie
-use Rattle.reading.proofs.read_on.Proof.Points.{Inv-loop, μ-loop, Inv-line, μ-line, at-line, next, text, stood, item-at, form-at, fair, turn, short, moved, refused, onward, holds, named, due, did, all-fields, more, few, small, read, taken, spanned, line-of, line-named, begun, ended}
+use Rattle.reading.proofs.read_on.Proof.Points.{does, Inv-loop, μ-loop, Inv-line, μ-line, at-line, next, text, stood, item-at, form-at, fair, turn, short, moved, refused, onward, named, due, did, all-fields, more, few, small, read, taken, spanned, line-of, line-named, begun, ended}
 
 line-holds : tie.Need-line-holds Inv-loop μ-loop Inv-line μ-line
 line-holds c =
@@ -30,38 +30,25 @@ line-holds c =
 add-n : tie.Need-add-n Inv-loop μ-loop Inv-line μ-line
 add-n c = omega (arith, c .before .before .line .inv .counted)
 
+sort-line-requires : tie.Need-sort-line-requires Inv-loop μ-loop Inv-line μ-line
+sort-line-requires c κs = (fair (c .before .before) .sound, at-line (c .before .before) .line .inv .ready .readable)
+
 line-less : tie.Need-line-less Inv-loop μ-loop Inv-line μ-line
-line-less c = let f = fair (c .before .before .before .before) in omega arith
+line-less c = let f = fair (c .before .before .before .before .before .before) in omega arith
 
 line-again : tie.Need-line-again Inv-loop μ-loop Inv-line μ-line
 line-again c =
-    let at = c .before .before .before .before in
+    let at = c .before .before .before .before .before .before in
     let x = at-line at .line in
-    let h = c .before .before .head-of in
-    moved at (x .r) (x .cards) (x .values) (x .event) (x .inv .ready) refl (x .inv .waiting) (x .inv .ten)
-    (goes (turn at) _ (line-skipped (turn at) (h .result) (h .ensures .0) (c .enum-told .given .1)))
-
-place-record-requires : tie.Need-place-record-requires Inv-loop μ-loop Inv-line μ-line
-place-record-requires c κs =
-    let head = c .before .before .before .before .head-of in
-    (rw (c .before .before .k .given .1) at (head .ensures .1), at-line (c .before .before .before .before .before .before) .line .inv .ready .readable)
-
-line-less-2 : tie.Need-line-less-2 Inv-loop μ-loop Inv-line μ-line
-line-less-2 c = let f = fair (c .before .before .before .before .before .before .before .before .before .before) in omega arith
-
-line-again-2 : tie.Need-line-again-2 Inv-loop μ-loop Inv-line μ-line
-line-again-2 c =
-    let x = c .before .before .before .before .before .before .before .before .before .before .before .before .before .line in
     let free = c .before .free .given .0 .0 in
-    let stand = rw (c .before .free .given .1) at (c .before .before .before .place-record .ensures .0) in
-    moved (c .before .before .before .before .before .before .before .before .before .before) _ (x .cards) (x .values) (x .event) (ready-form free (x .inv .ready)) refl (x .inv .waiting) (x .inv .ten)
-    (rw (in-form (x .r) free (x .cards)) (goes (turn (c .before .before .before .before .before .before .before .before .before .before)) _ (holds (c .before .before .before) ∙ stand _)))
+    let sorted = does (c .before .before .before) _ (c .before .free .given .1) in
+    moved at _ (x .cards) (x .values) (x .event) (ready-form free (x .inv .ready)) refl (x .inv .waiting) (x .inv .ten) (goes (turn at) _ (sorted .event))
 
 read-name-requires : tie.Need-read-name-requires Inv-loop μ-loop Inv-line μ-line
-read-name-requires c κs = short (c .before .before .before .before .before .before .before .before .before)
+read-name-requires c κs = short (c .before .before .before .before .before)
 
 named-fields-requires : tie.Need-named-fields-requires Inv-loop μ-loop Inv-line μ-line
-named-fields-requires c κs = due-known (at-line (c .before .before .before .before .before .before .before .before .before .before) .line .r .phase) (item-at c) _ (due c)
+named-fields-requires c κs = due-known (at-line (line-of c) .line .r .phase) (item-at c) _ (due c)
 
 loop-holds : tie.Need-loop-holds Inv-loop μ-loop Inv-line μ-line
 loop-holds c =
@@ -116,11 +103,11 @@ take-line-requires c κs =
     let v = c .before .before .before .before .loop .inv in
     ((rw (v .1, v .0) (at-line (line-of (ended (c .before .before))) .line .inv .ready), rw (v .1, v .0) (due (ended (c .before .before)))), record { fields = _; read = read (c .before .before) })
 
-line-less-3 : tie.Need-line-less-3 Inv-loop μ-loop Inv-line μ-line
-line-less-3 c = let f = fair (line-of (ended (c .before .before .before .before .before .before .before))) in omega arith
+line-less-2 : tie.Need-line-less-2 Inv-loop μ-loop Inv-line μ-line
+line-less-2 c = let f = fair (line-of (ended (c .before .before .before .before .before .before .before))) in omega arith
 
-line-again-3 : tie.Need-line-again-3 Inv-loop μ-loop Inv-line μ-line
-line-again-3 c =
+line-again-2 : tie.Need-line-again-2 Inv-loop μ-loop Inv-line μ-line
+line-again-2 c =
     let p = c .before .before .before .before .before .before .before in
     let at = line-of (ended p) in
     let l = c .before .before .before .before .before .before .before .before .before .loop in
@@ -143,52 +130,44 @@ returns c =
     record { found = rw (x .inv .waiting) (none-found s (x .at) (x .n) _ _ (drop-of-length-le s over) (x .inv .done)); onward = rw (x .inv .waiting) tt }
 
 same-length-2 : tie.Need-same-length-2 Inv-loop μ-loop Inv-line μ-line
-same-length-2 c = c .before .before .before .before .before .before .before .line .inv .long
+same-length-2 c = at-line (c .before .before .before .before .before .before) .line .inv .long
 
 returns-2 : tie.Need-returns-2 Inv-loop μ-loop Inv-line μ-line
 returns-2 c =
-    let h = c .before .before .head-of in
-    record { found = refused (c .before .before .before .before) 4 (line-unknown (turn (c .before .before .before .before)) (h .result) (h .ensures .0) (c .enum-told2 .given .1)); onward = tt }
+    let sorted = does (c .before .before .before) _ (c .before .number .given .1) in
+    record { found = refused (c .before .before .before .before .before .before) _ (sorted .event); onward = tt }
 
 same-length-3 : tie.Need-same-length-3 Inv-loop μ-loop Inv-line μ-line
-same-length-3 c = c .before .before .before .before .before .before .before .before .before .before .before .before .line .inv .long
+same-length-3 c = at-line (line-named (c .before)) .line .inv .long
 
 returns-3 : tie.Need-returns-3 Inv-loop μ-loop Inv-line μ-line
 returns-3 c =
-    let stand = rw (c .enum-told3 .given .1) at (c .before .before .place-record .ensures .0) in
-    record { found = refused (c .before .before .before .before .before .before .before .before .before) 5 (holds (c .before .before) ∙ stand _); onward = tt }
+    record { found = refused (line-named (c .before)) 6 (named (c .before) ∙ name-bad (stood (line-named (c .before))) _ (sym (c .before .read-name .ensures .bad) ∙ c .if2 .taken)); onward = tt }
 
 same-length-4 : tie.Need-same-length-4 Inv-loop μ-loop Inv-line μ-line
-same-length-4 c = c .before .before .before .before .before .before .before .before .before .before .before .before .before .before .line .inv .long
+same-length-4 c = at-line (line-named (c .before .before)) .line .inv .long
 
 returns-4 : tie.Need-returns-4 Inv-loop μ-loop Inv-line μ-line
 returns-4 c =
-    record { found = refused (line-named (c .before)) 6 (named (c .before) ∙ name-bad (stood (line-named (c .before))) _ (sym (c .before .read-name .ensures .bad) ∙ c .if2 .taken)); onward = tt }
-
-same-length-5 : tie.Need-same-length-5 Inv-loop μ-loop Inv-line μ-line
-same-length-5 c = c .before .before .before .before .before .before .before .before .before .before .before .before .before .before .before .line .inv .long
-
-returns-5 : tie.Need-returns-5 Inv-loop μ-loop Inv-line μ-line
-returns-5 c =
     let at = line-named (c .before .before) in
     let label = c .before .before .read-name in
     let good = name-good (stood at) _ (sym (label .ensures .bad) ∙ c .before .if2 .left) in
     record { found = opens-block (turn at) _ _ (label .ensures .same (c .before .if2 .left)) (named (c .before .before) ∙ good); onward = onward at event.Opened _ (label .ensures .short) }
 
+same-length-5 : tie.Need-same-length-5 Inv-loop μ-loop Inv-line μ-line
+same-length-5 c = at-line (c .before .before .before .before .before) .line .inv .long
+
+returns-5 : tie.Need-returns-5 Inv-loop μ-loop Inv-line μ-line
+returns-5 c =
+    let at = c .before .before .before .before .before in
+    let sorted = does (c .before .before) _ (c .enum-told2 .given .1) in
+    record { found = ends-deck (turn at) _ (sorted .event); onward = onward at event.Ended _ (at-line at .line .inv .letters) }
+
 same-length-6 : tie.Need-same-length-6 Inv-loop μ-loop Inv-line μ-line
-same-length-6 c = c .before .before .before .before .before .before .before .before .before .before .before .before .line .inv .long
+same-length-6 c = let p = c .before .before .before .before .before .before in ap length (p .before .before .loop .inv .0) ∙ at-line (line-of (begun p)) .line .inv .long
 
 returns-6 : tie.Need-returns-6 Inv-loop μ-loop Inv-line μ-line
 returns-6 c =
-    let at = c .before .before .before .before .before .before .before .before .before in
-    let stand = rw (c .enum-told5 .given .1) at (c .before .before .place-record .ensures .0) in
-    record { found = ends-deck (turn at) _ (holds (c .before .before) ∙ stand _); onward = onward at event.Ended _ (at-line at .line .inv .letters) }
-
-same-length-7 : tie.Need-same-length-7 Inv-loop μ-loop Inv-line μ-line
-same-length-7 c = let p = c .before .before .before .before .before .before in ap length (p .before .before .loop .inv .0) ∙ at-line (line-of (begun p)) .line .inv .long
-
-returns-7 : tie.Need-returns-7 Inv-loop μ-loop Inv-line μ-line
-returns-7 c =
     let at = c .before .before .before .before .before .before .before .before .before .before .before in
     let x = at-line (line-of at) .line in
     let l = c .before .before .before .before .before .before .before .before .loop in
@@ -200,24 +179,24 @@ returns-7 c =
     let fault = pass-fault (item-at at) (form-at (line-of at)) (text (line-of at)) worse in
     record { found = refused (line-of at) 6 (did at ∙ fault-event (item-at at) (x .r) (x .cards) _ (due at) fault); onward = tt }
 
-same-length-8 : tie.Need-same-length-8 Inv-loop μ-loop Inv-line μ-line
-same-length-8 c =
+same-length-7 : tie.Need-same-length-7 Inv-loop μ-loop Inv-line μ-line
+same-length-7 c =
     let p = c .before .before .before .before .before .before in
     c .before .before .before .take-line .kept .1 .1 .1 .1 .0 ∙ ap length (p .before .before .loop .inv .0) ∙ at-line (line-of (ended p)) .line .inv .long
 
-returns-8 : tie.Need-returns-8 Inv-loop μ-loop Inv-line μ-line
-returns-8 c =
+returns-7 : tie.Need-returns-7 Inv-loop μ-loop Inv-line μ-line
+returns-7 c =
     let p = c .before .before .before .before .before .before in
     let tl = c .before .before .before .take-line in
     let v = c .before .before .before .before .before .before .before .before .loop .inv in
     let did = taken p (tl .result .refusal) _ _ _ (v .1) (v .0) (tl .ensures .event _ (read p)) in
     record { found = refused (line-of (ended p)) _ (did ∙ unless-met _ _ (c .if5 .taken)); onward = tt }
 
-same-length-9 : tie.Need-same-length-9 Inv-loop μ-loop Inv-line μ-line
-same-length-9 c = c .before .before .before .line .inv .long
+same-length-8 : tie.Need-same-length-8 Inv-loop μ-loop Inv-line μ-line
+same-length-8 c = c .before .before .before .line .inv .long
 
-returns-9 : tie.Need-returns-9 Inv-loop μ-loop Inv-line μ-line
-returns-9 c =
+returns-8 : tie.Need-returns-8 Inv-loop μ-loop Inv-line μ-line
+returns-8 c =
     let x = c .before .before .before .line in
     let s = c .before .before .before .before .before .before .before .args .s .now in
     let unfair = unfair-line s (x .at) (c .before .line-at .result) (omega arith) (c .before .line-at .ensures) (c .if1 .left) in
@@ -228,10 +207,9 @@ read-on-spec =
     tie.close
     (tie.spec
     Inv-loop μ-loop Inv-line μ-line (λ c κs. search needs) line-holds (λ c κs. search needs) add-n (λ c. let f = fair c in omega arith)
-    (λ c. let f = fair c in omega arith) (λ c. let f = fair c in omega arith) (λ c κs. search needs) (λ c. search needs) line-less line-again
-    (λ c. search needs) (λ c. search needs) place-record-requires (λ c. search needs) (λ c. search needs) line-less-2 line-again-2 (λ c. search needs)
-    read-name-requires (λ c. search needs) (λ c. search needs) named-fields-requires (λ c κs. search needs) loop-holds (λ c κs. search needs)
+    (λ c. let f = fair c in omega arith) (λ c. let f = fair c in omega arith) sort-line-requires (λ c. search needs) (λ c. search needs) line-less line-again
+    (λ c. search needs) read-name-requires (λ c. search needs) (λ c. search needs) named-fields-requires (λ c κs. search needs) loop-holds (λ c κs. search needs)
     next-span-requires (λ c. search needs) (λ c. let f = spanned (c .before) in omega arith) (λ c. let f = spanned (c .before) in omega arith)
     (λ c. let f = spanned (c .before) in omega arith) note-field-requires add-i loop-less loop-again (λ c. search needs) take-line-requires
-    line-less-3 line-again-3 same-length returns same-length-2 returns-2 same-length-3 returns-3 same-length-4 returns-4 same-length-5 returns-5
-    same-length-6 returns-6 same-length-7 returns-7 same-length-8 returns-8 same-length-9 returns-9)
+    line-less-2 line-again-2 same-length returns same-length-2 returns-2 same-length-3 returns-3 same-length-4 returns-4 same-length-5 returns-5
+    same-length-6 returns-6 same-length-7 returns-7 same-length-8 returns-8)

@@ -1,5 +1,5 @@
--- The points of the walk over lines, and what is known at each: the two invariants, a line that passed 3, its head, its record placed, its fields begun, a field
--- left, none left, its name read.
+-- The points of the walk over lines, and what is known at each: the two invariants, a line that passed 3, what it comes to, its fields begun, a field left, none
+-- left, its name read.
 use Prim.Native.Nat.{ℕ, _+_, _-_, _≤_, zero-le}
 use mathlib.Core.Path.{_≡_, refl, sym, ap, _∙_}
 use mathlib.Core.Bool.{Bool, true, false}
@@ -11,10 +11,9 @@ use Rattle.meaning.specs.Lines.{linesOf}
 use Rattle.meaning.specs.Fields.{Form, fieldsOf, nameIn}
 use Rattle.meaning.specs.Records.{Item, anyField, anyFaulty}
 use Rattle.meaning.specs.Run as run
-use Rattle.meaning.specs.Run.{Refuse, Go, unless, readLine, readRecord}
+use Rattle.meaning.specs.Run.{Refuse, Go, unless, readLine}
 use Rattle.lines.specs.First.{FairAt, fair-line}
 use Rattle.fields.specs.Spans.{formOf, firstPlace, Stands}
-use Rattle.identifiers.specs.Heads.{recordIs}
 use Rattle.records.specs.Rows.{fieldRow, rulesBy, spanIn, span-few}
 use Rattle.events.specs.NextEvent.{Found, Met, nextEvent}
 use Rattle.scanning.specs.declared.Scan.{Scan}
@@ -28,8 +27,11 @@ use Rattle.reading.specs.declared.Event.the-variants as event
 use Rattle.placing.specs.declared.Reading.{Reading}
 use Rattle.placing.specs.Readings.{readingIs, Ready}
 use Rattle.placing.specs.Places.{Due, nameEvent, fieldsEvent}
+use Rattle.sorting.specs.declared.Sorted.{Sorted}
+use Rattle.sorting.specs.Sorted.{SortedIs, known-as}
+use Rattle.sorting.specs.declared.Sorted.the-variants as sorted
 use Rattle.reading.specs.Found.{Onward}
-use Rattle.reading.specs.AtLine.{AtLine, refuses, line-record, pass-read, form-in}
+use Rattle.reading.specs.AtLine.{AtLine, refuses, pass-read}
 use Rattle.reading.proofs.read_on.Tie as tie
 
 pub record Lines (s : List ℕ) (from before : ℕ) (cards₀ : List ℕ) (r₀ : Reading) (cards : List ℕ) (at n : ℕ) (r : Reading) (e : events.Event) (name : Name)
@@ -67,15 +69,12 @@ Inv-line s from before cards₀ at₀ n₀ r₀ event₀ name₀ values₀ cards
 abbrev pub μ-line : tie.MeasureT-line
 μ-line s from before cards₀ at₀ n₀ r₀ event₀ name₀ values₀ cards at n r event name values = length s - at
 
--- THE POINTS OF THE WALK: a line that passed 3, its head, its record placed, its fields begun, a field left, none left; its name read.
+-- THE POINTS OF THE WALK: a line that passed 3, what it comes to, its fields begun, a field left, none left; its name read.
 abbrev pub Fair : Type 0
 Fair = tie.Then1 Inv-loop μ-loop Inv-line μ-line
 
-abbrev pub Headed : Type 0
-Headed = tie.After-head-of Inv-loop μ-loop Inv-line μ-line
-
 abbrev pub Stood : Type 0
-Stood = tie.After-place-record Inv-loop μ-loop Inv-line μ-line
+Stood = tie.After-sort-line Inv-loop μ-loop Inv-line μ-line
 
 abbrev pub Listing : Type 0
 Listing = tie.After-known-told3 Inv-loop μ-loop Inv-line μ-line
@@ -154,40 +153,33 @@ onward c e name few =
     let f = fair c in
     record { ready = o .ready; within = f .within; forth = omega (arith, o .forth, f .goes-on); counted = omega (arith, o .counted, f .goes-on); letters = few }
 
--- it holds a record
+-- what it does
 abbrev pub line-stood : Stood → Fair
-line-stood c = c .before .before .before .before .before .before .before
+line-stood c = c .before .before .before
 
-pub holds : (c : Stood)
-    → let at = line-stood c in readLine (stood at) (text at) ≡ readRecord (stood at) (text at) (recordIs (c .before .before .before .k .given .0 .0))
-holds c =
-    let h = c .before .before .before .before .before .head-of in
-    let k = c .before .before .before .k in
-    line-record (turn (line-stood c)) (h .result) (k .given .0 .0) (h .ensures .0) (k .given .1)
+pub does : (c : Stood) (x : Sorted) → c .sort-line .result ≡ x → SortedIs x (at-line (line-stood c) .line .r) (at-line (line-stood c) .line .cards) (text (line-stood c))
+does c x e = known-as x e (c .sort-line .ensures)
 
 -- with a name
 abbrev pub line-named : tie.After-read-name Inv-loop μ-loop Inv-line μ-line → Fair
-line-named c = c .before .before .before .before .before .before .before .before .before .before
+line-named c = c .before .before .before .before .before .before
 
 pub named : (c : tie.After-read-name Inv-loop μ-loop Inv-line μ-line)
     → readLine (stood (line-named c)) (text (line-named c)) ≡ nameEvent (stood (line-named c)) (nameIn (form-at (line-named c)) (text (line-named c)))
-named c =
-    let x = at-line (line-named c) .line in
-    let stand = rw (c .before .enum-told4 .given .1) at (c .before .before .before .place-record .ensures .0) in
-    holds (c .before .before .before) ∙ stand _ ∙ ap (λ (form : Form). nameEvent (stood (line-named c)) (nameIn form (text (line-named c)))) (form-in (x .r) (x .cards))
+named c = does (c .before .before .before) sorted.Named (c .before .enum-told .given .1) .event
 
 -- with fields, which are due where the reading stands
 abbrev pub line-of : Listing → Fair
-line-of c = c .before .before .before .before .before .before .before .before .before .before
+line-of c = c .before .before .before .before .before .before
+
+sorted-so : (c : Listing) → SortedIs (sorted.Fields (item-at c)) (at-line (line-of c) .line .r) (at-line (line-of c) .line .cards) (text (line-of c))
+sorted-so c = does (c .before .before .before) _ (c .before .item .given .1)
 
 pub due : (c : Listing) → Due (at-line (line-of c) .line .r .phase) (item-at c) (at-line (line-of c) .line .cards)
-due c = rw (c .before .item .given .1) at (c .before .before .before .place-record .ensures .1)
+due c = sorted-so c .onward
 
 pub did : (c : Listing) → readLine (stood (line-of c)) (text (line-of c)) ≡ fieldsEvent (item-at c) (stood (line-of c)) (fieldsOf (form-at (line-of c)) (text (line-of c)))
-did c =
-    let x = at-line (line-of c) .line in
-    let stand = rw (c .before .item .given .1) at (c .before .before .before .place-record .ensures .0) in
-    holds (c .before .before .before) ∙ stand _ ∙ ap (λ (form : Form). fieldsEvent (item-at c) (stood (line-of c)) (fieldsOf form (text (line-of c)))) (form-in (x .r) (x .cards))
+did c = sorted-so c .event
 
 -- all its fields, as the pass begins
 abbrev pub all-fields : Listing → List (List ℕ)
@@ -215,7 +207,7 @@ small c =
 pub spanned : (c : tie.After-next-span Inv-loop μ-loop Inv-line μ-line)
     → SpanTurn (form-at (line-of (begun (c .before)))) (text (line-of (begun (c .before)))) (c .before .before .before .loop .i) (c .before .before .before .loop .c) (c .next-span .result)
 spanned c =
-    let p = c .before .before .before .before .before .before .before .before .before .before .before .before .before .before .before .before in
+    let p = line-of (begun (c .before)) in
     let l = c .before .before .before .loop in
     span-turn (form-at p) (text p) (l .i) (l .c) (c .next-span .result) (short p) (l .inv .3 .stands) (c .next-span .ensures)
 
