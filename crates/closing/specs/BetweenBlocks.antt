@@ -21,7 +21,7 @@ use Rattle.results.specs.Records.{Named, Each, each-more, recordsIn, no-records
 use Rattle.making.specs.Made.{HeldWithin}
 use Rattle.telling.specs.declared.Closed.{Closed}
 use Rattle.telling.specs.LastHeld.{view-last}
-use Rattle.telling.specs.WrittenResult.{recordTold, recordPut, copiedFirst, copiedNamed}
+use Rattle.writing.specs.WrittenResult.{recordTold, recordPut, copiedFirst, copiedNamed}
 use Rattle.closing.specs.ClosedBlock.{Keeps, Closes}
 use Rattle.closing.specs.ToldResult.{resultOf, told-record, told-flow}
 use Rattle.closing.specs.NamedOrdinates.{named-last, ordinatesFor, ordinates-given, none-named, not-yet-closed, copied-zeros, ordinates-more}

@@ -14,7 +14,7 @@ use Rattle.sequences.specs.Zeros.{drop-replicate}
 use Rattle.meaning.specs.Words.{_=?_, _≤?_, if_then_else_}
 use Rattle.meaning.specs.Results.{Result}
 use Rattle.meaning.specs.Run.{flowsOf, namedFlow}
-use Rattle.telling.specs.WrittenResult.{copiedFirst, copiedNamed}
+use Rattle.writing.specs.WrittenResult.{copiedFirst, copiedNamed}
 
 -- THE NAMED BLOCK
 flow-more : (rs : List Result) (r : Result) (i : ℕ) → i < length rs → getD (flowsOf (rs ++ (r ∷ []))) i [] ≡ getD (flowsOf rs) i []

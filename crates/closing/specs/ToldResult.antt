@@ -14,7 +14,7 @@ use Rattle.stack.specs.View.{view}
 use Rattle.results.specs.Record.{record-of}
 use Rattle.telling.specs.declared.Closed.{Closed}
 use Rattle.telling.specs.LastHeld.{view-last}
-use Rattle.telling.specs.WrittenResult.{recordTold}
+use Rattle.writing.specs.WrittenResult.{recordTold}
 use Rattle.closing.specs.ClosedBlock.{Closes, closedBlock, answer-number, answer-none}
 
 abbrev pub resultOf : Time → Block → Stack → List ℕ → Result

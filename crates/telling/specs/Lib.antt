@@ -1,3 +1,2 @@
--- The hydrograph held last, where the words and the areas have it, and what is written of a closed block.
+-- The hydrograph held last, where the words and the areas have it.
 pub mod LastHeld
-pub mod WrittenResult

@@ -17,7 +17,7 @@ use Rattle.placing.specs.declared.Reading.{Reading}
 use Rattle.placing.specs.Readings.{Begins, Opens}
 use Rattle.stack.specs.declared.Stack.{Stack}
 use Rattle.stack.specs.View.{noneHeld}
-use Rattle.telling.specs.WrittenResult.{copiedFirst}
+use Rattle.writing.specs.WrittenResult.{copiedFirst}
 use Rattle.turns.specs.declared.State.{State}
 use Rattle.turns.specs.declared.Worked.{Worked}
 use Rattle.turns.specs.declared.Turn.{Turn}

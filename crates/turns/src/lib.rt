@@ -136,7 +136,7 @@ fn copy_if_last(ordinates: &mut [u64], work: &[u64], held: Stack, nq: usize, nam
     if named != 0 {
         return;
     }
-    telling::copy_last(ordinates, work, held, nq);
+    writing::copy_last(ordinates, work, held, nq);
 }
 
 // KK: unless the block that was open was refused where it closed, the next one is opened.

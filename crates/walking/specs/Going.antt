@@ -22,7 +22,7 @@ use Rattle.placing.specs.Readings.{readingIs, Ready, blockIs}
 use Rattle.stack.specs.declared.Stack.{Stack}
 use Rattle.stack.specs.View.{view}
 use Rattle.telling.specs.declared.Closed.{Closed}
-use Rattle.telling.specs.WrittenResult.{recordTold, recordPut, copiedNamed}
+use Rattle.writing.specs.WrittenResult.{recordTold, recordPut, copiedNamed}
 use Rattle.closing.specs.ClosedBlock.{Closes}
 use Rattle.closing.specs.BetweenBlocks.{Carried, HeldAfter}
 use Rattle.turns.specs.declared.Finished.{Finished}

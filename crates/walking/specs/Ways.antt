@@ -28,7 +28,7 @@ use Rattle.placing.specs.Readings.{readingIs, readingBy, timeIn, formIn, Ready,
 use Rattle.stack.specs.declared.Stack.{Stack}
 use Rattle.stack.specs.View.{view, length-held}
 use Rattle.telling.specs.LastHeld.{view-last}
-use Rattle.telling.specs.WrittenResult.{copiedFirst}
+use Rattle.writing.specs.WrittenResult.{copiedFirst}
 use Rattle.closing.specs.BetweenBlocks.{Carried, carried-named, carried-last}
 use Rattle.turns.specs.declared.Finished.{Finished}
 use Rattle.turns.specs.declared.State.{State}

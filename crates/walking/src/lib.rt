@@ -40,7 +40,7 @@ fn finish_block(
             held: next,
         };
     }
-    telling::write_result(
+    writing::write_result(
         r.name,
         closed,
         k,

@@ -1,4 +1,4 @@
--- `telling::write_record` meets its contract: without room the records stay, and with room `record_at` writes the one.
+-- `writing::write_record` meets its contract: without room the records stay, and with room `record_at` writes the one.
 use Prim.Native.Nat.{_+_, _-_, _*_, _<_, _≤_}
 use mathlib.Core.Path.{_≡_, refl, _∙_}
 use native.Mathlib.Omega.{arith}
@@ -7,8 +7,8 @@ use borrow.Author.Tests.{le-leb, lt-leb}
 use lib.ListN.{length}
 use Rattle.sequences.specs.Choices.{taken, passed}
 use Rattle.meaning.specs.Results.{recordSize}
-use Rattle.telling.proofs.write_record.Statement.{statement}
-use Rattle.telling.proofs.write_record.Tie as tie
+use Rattle.writing.proofs.write_record.Statement.{statement}
+use Rattle.writing.proofs.write_record.Tie as tie
 
 returns : tie.Need-returns
 returns c =

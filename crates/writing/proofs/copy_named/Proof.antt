@@ -1,12 +1,12 @@
--- `telling::copy_named` meets its contract: by whether the block is the one named.
+-- `writing::copy_named` meets its contract: by whether the block is the one named.
 use Prim.Native.Nat.{_+_}
 use mathlib.Core.Path.{_≡_, refl}
 use native.Mathlib.Omega.{arith}
 use borrow.Author.Needs.{needs}
 use borrow.Author.Tests.{eq-eqb, ne-eqb}
 use Rattle.sequences.specs.Choices.{taken, passed}
-use Rattle.telling.proofs.copy_named.Statement.{statement}
-use Rattle.telling.proofs.copy_named.Tie as tie
+use Rattle.writing.proofs.copy_named.Statement.{statement}
+use Rattle.writing.proofs.copy_named.Tie as tie
 
 returns : tie.Need-returns
 returns c =

@@ -1,4 +1,4 @@
--- `telling::copy_last` meets its contract: without room the ordinates stay, and with room the words of the last place come in front.
+-- `writing::copy_last` meets its contract: without room the ordinates stay, and with room the words of the last place come in front.
 use Prim.Native.Nat.{ℕ, _<_, _≤_}
 use mathlib.Core.Path.{refl, _∙_}
 use mathlib.Core.List.{List, _++_}
@@ -7,9 +7,9 @@ use borrow.Author.Needs.{needs}
 use borrow.Author.Tests.{le-leb, lt-leb}
 use lib.ListN.{length, drop}
 use Rattle.sequences.specs.Choices.{taken, passed}
 use Rattle.telling.specs.LastHeld.{lent-by, length-last}
-use Rattle.telling.proofs.copy_last.Statement.{statement}
-use Rattle.telling.proofs.copy_last.Tie as tie
+use Rattle.writing.proofs.copy_last.Statement.{statement}
+use Rattle.writing.proofs.copy_last.Tie as tie
 
 returns : tie.Need-returns
 returns c =
