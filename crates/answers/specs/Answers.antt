@@ -4,7 +4,7 @@
 --     lacking                         whether there is too little of it
 --     sizeRefusal                     what is refused for the sizes, before the deck is read
 --     settledAs                       what becomes of a deck that is sound
---     zeros-refuse                    zeros in all of it are a refusal
+--     zeros-refuse                    zeros in all of it are a refusal; zeros-accept: zeros in the work words alone an acceptance
 use Prim.Native.Nat.{ℕ, _*_}
 use mathlib.Core.Path.{_≡_}
 use mathlib.Core.Bool.{Bool, _||_}
@@ -53,3 +53,9 @@ module _ (number line : ℕ) (words flows bytes words′ flows′ bytes′ : Lis
   pub zeros-refuse : words′ ≡ replicate (length words) 0 → flows′ ≡ replicate (length flows) 0 → bytes′ ≡ replicate (length bytes) 0
       → outcomeIs (answer.Refused number line) words′ flows′ bytes′ ≡ refused number line (lentAs words flows bytes)
   zeros-refuse w f b = rw (w, f, b)
+
+-- zeros in the words that the run worked in, and the results as they stand
+module _ (nq blocks : ℕ) (work work′ ordinates records : List ℕ) where
+  pub zeros-accept : work′ ≡ replicate (length work) 0
+      → outcomeIs (answer.Accepted nq blocks) work′ ordinates records ≡ outcomeIs (answer.Accepted nq blocks) (replicate (length work) 0) ordinates records
+  zeros-accept e = rw e

@@ -2,6 +2,7 @@
 use mathlib.Core.Path.{sym, _∙_}
 use borrow.Author.Needs.{needs}
 use Rattle.sequences.specs.Choices.{taken, passed}
+use Rattle.answers.specs.Answers.{zeros-accept}
 use Rattle.answers.proofs.settle.Statement.{statement}
 use Rattle.answers.proofs.settle.Tie as tie
 
@@ -13,7 +14,9 @@ returns c =
 returns-2 : tie.Need-returns-2
 returns-2 c =
     let test = c .before .before .before .before in
-    passed _ (sym (test .before .lacks-room .ensures) ∙ test .if1 .left) (rw (c .before .before .zero-words .ensures))
+    let x = test .before .before .before .before .before .args in
+    passed _ (sym (test .before .lacks-room .ensures) ∙ test .if1 .left)
+    (zeros-accept (x .nq) (x .blocks) (x .work .now) _ (x .ordinates .now) (x .records .now) (c .before .before .zero-words .ensures))
 
 pub settle-spec : {M : Type 1} → statement M
 settle-spec =
