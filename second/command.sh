@@ -156,6 +156,7 @@ quote 3 1 'foreign byte in column 5' 'ID ??' 'ID ?\0177\n'
 quote 3 1 'line of 82 bytes, over 80' "ID$(printf %.78s "$eighty")" "ID${eighty}A\n"
 quote 4 1 'unknown record or control' "XX$(printf %.78s "$eighty")" "XX$(printf %.78s "$eighty")\r\n"
 quote 9 6 'wrong set of records in the block of line 4' 'KK B' '*FREE\nIT 60,,,4\nKM\nKK A\nBA 1\nKK B\nZZ\n'
+quote 18 9 'a storm total above 0 with a pattern of zeros in the block of line 3' 'KK B' '*FREE\nIT 60,,,4\nKK A\nBA 1\nPB 1\nPI\nLU\nUI 1\nKK B\n'
 quote 12 9 'K, X and N do not suit the interval in the block of line 6' 'ZZ end' \
     '*FREE\nIT 60,,,4\nKK A\nQI 1\n\nKK B\nKM KK\nRM 1,0.5,0.2\nZZ end'
 head -c 60001 /dev/zero >long.hc1

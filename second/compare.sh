@@ -3,7 +3,7 @@
 # Runs the proved programs and the second program on the same decks and compares what they print, byte by byte.
 # By default 20,000 decks of all sorts, 2,000 cases with rooms of all sizes, 2,000 pairs of decks that draw one
 # network (which must also answer as such), and a few decks, one at a time, on both sides of 60,000 bytes.
-# Fails too when a refusal is missing: the first or the last in the cases, any other in the bundle.
+# Fails too when a refusal is missing: one that depends on rooms in the cases, any other in the bundle.
 # The last line is 'N passed, M failed', where each deck, case and pair counts as one; the exit status agrees with it.
 #
 # --program, to try this script itself: a program to start in place of the proved ones (with --bundle or --cases).
@@ -113,11 +113,11 @@ both() {
 
 "$decks" bundle "$seed" "$bundle" >"$work/decks" || die "the deck writer failed"
 both bundle --bundle
-compare bundle "$bundle" "$(numbers 2 $((refusals - 1)) | tr '\n' ' ')"
+compare bundle "$bundle" "$(deck_refusals)"
 
 "$decks" cases "$seed" "$cases" >"$work/decks" || die "the deck writer failed"
 both rooms --cases
-compare cases "$cases" "1 $refusals"
+compare cases "$cases" "$room_refusals"
 
 "$decks" pairs "$seed" "$pairs" >"$work/decks" || die "the deck writer failed"
 both bundle --bundle

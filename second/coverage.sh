@@ -2,8 +2,9 @@
 # coverage.sh [--program PROGRAM] [SEED [BUNDLE [CASES [PAIRS]]]]
 # Writes decks, runs them through the second program and counts the answers.
 # The program is target/second/hec1, built here, or the one named with --program.
-# Fails when a refusal is missing, the first or the last in the cases, any other in
-# the bundle, when a sound deck is refused, or when a pair is violated.
+# Fails when a refusal is missing, one that depends on rooms in the cases, any
+# other in the bundle, when a sound or a long deck is refused, or when a pair is
+# violated.
 set -u
 root=$(CDPATH= cd -- "$(dirname -- "$0")/.." && pwd)
 . "$root/second/kit.sh" || exit 2
@@ -67,11 +68,11 @@ count() {
 
 "$decks" bundle "$seed" "$bundle" > "$work/decks"
 "$hec1" --bundle < "$work/decks" > "$work/out" || failed=$((failed + 1))
-check count bundle "$(numbers 2 $((refusals - 1)) | tr '\n' ' ')" < "$work/out"
+check count bundle "$(deck_refusals)" < "$work/out"
 
 "$decks" cases "$seed" "$cases" > "$work/decks"
 "$hec1" --cases < "$work/decks" > "$work/out" || failed=$((failed + 1))
-check count cases "1 $refusals" < "$work/out"
+check count cases "$room_refusals" < "$work/out"
 
 "$decks" sound "$seed" "$pairs" > "$work/decks"
 "$hec1" --bundle < "$work/decks" > "$work/out" || failed=$((failed + 1))
@@ -81,6 +82,13 @@ check count sound "" < "$work/out"
 "$hec1" --bundle < "$work/decks" > "$work/out" || failed=$((failed + 1))
 check count pairs "11" < "$work/out"
 check "$root/target/second/check-pairs" < "$work/out"
+
+# the long decks that are written for timing
+for kind in lists blocks storms routing; do
+    "$decks" big "$seed" "$kind" | "$hec1" > "$work/out" || failed=$((failed + 1))
+    echo "long     $kind: $(tail -n 1 "$work/out")"
+    check grep -q '^END ' "$work/out"
+done
 
 echo "$passed passed, $failed failed"
 [ "$failed" -eq 0 ]

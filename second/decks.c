@@ -1,4 +1,5 @@
-/* The deck writer: seeded test decks for the engine of document 01. */
+/* The deck writer: seeded test decks for the engine of document 01, with the
+   storm totals of document 02, CR 1. */
 #include <stdio.h>
 #include <stdlib.h>
 #include <string.h>
@@ -18,10 +19,12 @@ static const char help[] =
     "decks pairs SEED COUNT           COUNT pairs of decks, as in a bundle; each pair draws one network\n"
     "                                 in two orders and two manners of writing\n"
     "decks sound SEED COUNT           COUNT lawful decks, as in a bundle\n"
-    "decks damaged SEED COUNT NUMBER  COUNT decks, each with one damage aimed at that refusal (2 to 16)\n"
+    "decks damaged SEED COUNT NUMBER  COUNT decks, each with one damage aimed at that refusal (2 to 16, 18)\n"
     "decks one SEED INDEX             deck INDEX (from 0) of the bundle of that seed, bare\n"
     "decks big SEED lists [BYTES]                       one long deck of PI, UI and QI lines, bare\n"
     "decks big SEED blocks [BLOCKS [NQ [UNITS [RAIN]]]] one deck of runoff blocks and confluences, bare\n"
+    "decks big SEED storms [BLOCKS [NQ [UNITS [RAIN]]]] the same with a total (PB) in each runoff block, bare;\n"
+    "                                 fewer blocks where 60,000 bytes would be passed\n"
     "decks big SEED routing [BLOCKS [NQ [STEPS]]]       one deck of routings, bare\n"
     "decks --help                     this text\n"
     "\n"
@@ -126,7 +129,7 @@ static int pick_refusal(void)
 {
     /* 2 and 14 make long decks, so they come less often */
     static const int usual[] = {
-        3, 3, 4, 4, 5, 5, 5, 6, 6, 6, 7, 7, 7, 8, 8, 9, 9, 9, 10, 10, 11, 11, 12, 12, 13, 13, 15, 15, 16
+        3, 3, 4, 4, 5, 5, 5, 6, 6, 6, 7, 7, 7, 8, 8, 9, 9, 9, 10, 10, 11, 11, 12, 12, 13, 13, 15, 15, 16, 18, 18, 18
     };
     int r = rnd(1000);
     if (r < 8) return 2;
@@ -137,7 +140,7 @@ static int pick_refusal(void)
 static void base_for(int number)
 {
     fill_to = 0;
-    if (number == 14) {
+    if (number == 14 || (number == 18 && pct(4))) {   /* a 201st block needs many before it */
         style_random(&style);
         style.pkm /= 4;
         style.pblank /= 4;
@@ -304,6 +307,18 @@ static int spoil(int number)                       /* makes one block of the net
             b->pi[0] = LIMIT_PI;
             b->ui[0] = 500001;
             b->lu1 = b->lu2 = 0;
+            if (b->has_pb) {
+                b->pb = LIMIT_PB;
+                b->ui[0] = 100001;
+            }
+            return 1;
+        }
+        if (number == 18 && b->kind == 1) {
+            int k;
+            for (k = 0; k < b->npi; k++)
+                b->pi[k] = 0;
+            b->has_pb = 1;
+            b->pb = pct(50) ? 1 : between(1, LIMIT_PB);
             return 1;
         }
     }
@@ -344,8 +359,8 @@ static void pairs(uint64_t seed, int count)
             net_random(&net, size, 0, 14, pct(90) ? FLOW_SHARE : FLOW_WILD, 20);
         }
         net_names(&net, distinct);
-        if (pct(6))
-            spoil(pct(50) ? 12 : 13);
+        if (pct(8))
+            spoil(pct(35) ? 12 : pct(50) ? 13 : 18);
         for (tries = 0; tries < 20; tries++) {
             net_shuffle(&net);
             if (net_held(&net) <= LIMIT_HELD)
@@ -442,13 +457,16 @@ static void big_lists(int size)
     say("ZZ\n");
 }
 
-static void big_blocks(int count, int nq, int units, int rain)
+/* storms: each runoff block has a total too */
+static void big_blocks(int count, int nq, int units, int rain, int storms)
 {
     int held = 0, left = count, v;
     char t[64];
     snprintf(t, sizeof t, "*FREE\nIT60,,,%d\n", nq);
     say(t);
-    /* excess is 0.05 or 1.05 inch, unit ordinates 1 to 3: far below the limit */
+    /* excess is 0.05 or 1.05 inch, unit ordinates 1 to 3: far below the limit;
+       with a total of 7 to 9 inches it is what each share leaves above 0.01, so
+       that no interval with rain stays without excess there either */
     while (left > 0) {
         if (left <= (held - 1 + 3) / 4 || held == LIMIT_HELD) {
             int n = held < 5 ? held : 5;
@@ -465,7 +483,13 @@ static void big_blocks(int count, int nq, int units, int rain)
             say("RM1,1\n");
         } else {
             say_block();
-            say("BA1\nLU,.95\n");
+            if (storms) {
+                static const char *const totals[] = { "PB7\n", "PB8\n", "PB9\n" };
+                say("BA1\nLU,.01\n");
+                say(rain == 0 ? "PB0\n" : totals[name_number % 3]);
+            } else {
+                say("BA1\nLU,.95\n");
+            }
             for (v = 0; v < rain; v += 10)
                 say_list("PI", rain - v < 10 ? rain - v : 10, 1, 2, 0);
             if (rain == 0) say("PI\n");
@@ -477,6 +501,16 @@ static void big_blocks(int count, int nq, int units, int rain)
         left--;
     }
     say("ZZ\n");
+}
+
+static void big_storms(uint64_t seed, int count, int nq, int units, int rain)
+{
+    do {
+        used = 0;
+        name_number = 0;
+        rng_seed(seed, (uint64_t)3 << 40);         /* the values of the deck without totals */
+        big_blocks(count, nq, units, rain, 1);
+    } while (used > LIMIT_BYTES && --count > 0);
 }
 
 static void big_routing(int count, int nq, int steps)
@@ -549,24 +583,31 @@ int main(int argc, char **argv)
             a[i] = whole(argv[4 + i], 0, LIMIT_BYTES, "a size");
         if (!strcmp(kind, "lists"))
             big_lists(given > 0 ? a[0] : LIMIT_BYTES);
-        else if (!strcmp(kind, "blocks"))
-            big_blocks(given > 0 ? a[0] : LIMIT_BLOCKS, given > 1 ? a[1] : LIMIT_NQ,
-                       given > 2 ? a[2] : LIMIT_UNITS,
-                       given > 3 ? a[3] : given > 1 && a[1] < 10 ? a[1] : 10);
-        else if (!strcmp(kind, "routing"))
+        else if (!strcmp(kind, "blocks") || !strcmp(kind, "storms")) {
+            int count = given > 0 ? a[0] : LIMIT_BLOCKS, nq = given > 1 ? a[1] : LIMIT_NQ;
+            int units = given > 2 ? a[2] : LIMIT_UNITS, rain = given > 3 ? a[3] : nq < 10 ? nq : 10;
+            if (!strcmp(kind, "storms"))
+                big_storms(seed, count, nq, units, rain);
+            else
+                big_blocks(count, nq, units, rain, 0);
+        } else if (!strcmp(kind, "routing"))
             big_routing(given > 0 ? a[0] : LIMIT_BLOCKS, given > 1 ? a[1] : LIMIT_NQ, given > 2 ? a[2] : 50);
         else
             return usage();
         fwrite(big, 1, (size_t)used, stdout);
     } else {
         int count = whole(argv[3], 0, 100000000, "COUNT");
-        int aimed = !strcmp(what, "damaged");
+        int aimed = !strcmp(what, "damaged"), number = 0;
         if (argc != 4 + aimed)
+            return usage();
+        if (aimed)
+            number = whole(argv[4], 2, 18, "NUMBER");
+        if (number == 17)                          /* no damage of a deck leads there */
             return usage();
         if (!strcmp(what, "bundle")) {
             bundle(seed, count);
         } else if (aimed) {
-            only_damaged(seed, count, whole(argv[4], 2, 16, "NUMBER"));
+            only_damaged(seed, count, number);
         } else if (!strcmp(what, "sound")) {
             only_sound(seed, count);
         } else if (!strcmp(what, "cases")) {

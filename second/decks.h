@@ -1,4 +1,5 @@
-/* Shared types of the deck writer.  All limits and records follow document 01. */
+/* Shared types of the deck writer.  All limits and records follow document 01
+   and document 02, CR 1. */
 #ifndef DECKS_H
 #define DECKS_H
 
@@ -12,6 +13,7 @@ enum {
     LIMIT_NQ = 300,
     LIMIT_UNITS = 150,
     LIMIT_PI = 200000,        /* 20 inches, in ten-thousandths */
+    LIMIT_PB = 1000000,       /* 100 inches */
     LIMIT_UI = 9999999,       /* 99,999.99 in hundredths */
     LIMIT_QI = 10000000,      /* 100,000 cfs in hundredths */
     LIMIT_BA = 999999
@@ -31,6 +33,7 @@ typedef struct {
     int nlen;
     int kind;                 /* 1 runoff, 2 inflow, 3 confluence, 4 routing */
     int has_ba, ba;
+    int has_pb, pb;           /* a total: the values of PI are its pattern */
     int npi, nui, nqi;
     int lu1, lu2;
     int hc;
@@ -63,7 +66,7 @@ int rm_pick(int m, int how, int *rn, int *rk, int *rx);
 
 /* ---- lines and decks ---- */
 enum {
-    T_ID, T_IT, T_KK, T_KM, T_BA, T_PI, T_LU, T_UI, T_QI, T_HC, T_RM, T_ZZ,
+    T_ID, T_IT, T_KK, T_KM, T_BA, T_PB, T_PI, T_LU, T_UI, T_QI, T_HC, T_RM, T_ZZ,
     T_CONTROL, T_BLANK, T_OTHER
 };
 enum { FIXED, FREE };

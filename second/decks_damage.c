@@ -1,5 +1,5 @@
-/* Damages aimed at one refusal each (document 01, the table of refusals),
-   blind mutations, and decks that hardly are decks. */
+/* Damages aimed at one refusal each (document 01, the table of refusals, and
+   document 02, CR 1), blind mutations, and decks that hardly are decks. */
 #include <stdio.h>
 #include <string.h>
 #include "decks.h"
@@ -88,6 +88,7 @@ static void plain_record(Line *l, const Style *s, const Net *n)
     int rn, rk, rx;
     switch (l->tag) {
     case T_BA: put(l, s, 1, "1.5", "", ""); break;
+    case T_PB: put(l, s, 1, "4.37", "", ""); break;
     case T_LU: put(l, s, 2, "0.5", "0.1", ""); break;
     case T_HC: put(l, s, 1, "2", "", ""); break;
     case T_RM:
@@ -211,7 +212,7 @@ static int damage4(Deck *d)
         "XX 1", "KO 5", "IO 1 2", "JD 1", "BF 1 2", "MA 1", "kk UP", "it 60", "zz", "K", "Z", "*", "**",
         "*FREE X", "*FREEX", "*FIXED", "*FREE,", "*free", "*Fix", "*FI", "*FR", "* FREE", "*F REE", "*LIST",
         "*DIAGRAM", "*FREE *FIX", " KK UP", " ZZ", "  ZZ", " *FIX", "K K", ",", "1", ".", "KL", "ZK", "Kk",
-        "IN", "RL 0", "QO 1", "QP 1", "US 1", "UC 1", "PB 1", "DR", "-", "X", "KN NOTE", "/*"
+        "IN", "RL 0", "QO 1", "QP 1", "US 1", "UC 1", "PR 1", "PT 1", "PC .5", "pb 1", "P", "DR", "-", "X", "KN NOTE", "/*"
     };
     int top = last_line_of_deck(d), at;
     if (d->nl == 0)
@@ -255,8 +256,8 @@ static int damage4(Deck *d)
 
 static int damage5(Deck *d, const Net *n, const Style *s)
 {
-    static const int data[] = { T_BA, T_PI, T_LU, T_UI, T_QI, T_HC, T_RM };
-    static const int once[] = { T_BA, T_LU, T_HC, T_RM };
+    static const int data[] = { T_BA, T_PB, T_PI, T_LU, T_UI, T_QI, T_HC, T_RM };
+    static const int once[] = { T_BA, T_PB, T_PB, T_LU, T_HC, T_RM };
     int it = first_tag(d, T_IT), kk = first_tag(d, T_KK), zz = last_line_of_deck(d), at, i;
     if (it < 0)
         return 0;
@@ -275,12 +276,12 @@ static int damage5(Deck *d, const Net *n, const Style *s)
         return 1;
     case 3:                                        /* data before IT */
         at = rnd(it + 1);
-        plain_record(insert(d, at, data[rnd(7)]), s, n);
+        plain_record(insert(d, at, data[rnd(COUNT(data))]), s, n);
         return 1;
     case 4:                                        /* data between IT and the first KK */
         if (kk < it) return 0;
         at = between(it + 1, kk);
-        plain_record(insert(d, at, data[rnd(7)]), s, n);
+        plain_record(insert(d, at, data[rnd(COUNT(data))]), s, n);
         return 1;
     case 5:                                        /* ZZ before IT */
         plain_record(insert(d, rnd(it + 1), T_ZZ), s, n);
@@ -288,8 +289,8 @@ static int damage5(Deck *d, const Net *n, const Style *s)
     case 6:                                        /* no IT */
         drop(d, it, 1);
         return 1;
-    default:                                       /* a second BA, LU, HC or RM */
-        at = find_tag(d, once[rnd(4)]);
+    default:                                       /* a second BA, PB, LU, HC or RM */
+        at = find_tag(d, once[rnd(COUNT(once))]);
         if (at < 0) return 0;
         i = closing_line(d, at);
         {
@@ -301,6 +302,11 @@ static int damage5(Deck *d, const Net *n, const Style *s)
                 memcpy(l->t, copy.t, sizeof copy.t);
             } else {
                 plain_record(l, s, n);
+                if (pct(30)) {                     /* 5 comes before what its fields would meet */
+                    char t[16];
+                    snprintf(t, sizeof t, "%s %s", tag_ident(tag), pct(50) ? "1.2.3" : "-1");
+                    line_text(l, t);
+                }
             }
         }
         return 1;
@@ -312,6 +318,7 @@ static int damage5(Deck *d, const Net *n, const Style *s)
 static const struct { int tag, field; const char *text; } too_fine[] = {
     { T_IT, 0, "60.0" }, { T_IT, 0, "1.00" }, { T_IT, 3, "4.0" }, { T_IT, 3, "12.00" }, { T_IT, 3, "0.0" },
     { T_BA, 0, "1.500" }, { T_BA, 0, ".001" }, { T_BA, 0, "1.000" },
+    { T_PB, 0, ".00001" }, { T_PB, 0, "4.37000" }, { T_PB, 0, ".00000" }, { T_PB, 0, "1.00000" },
     { T_PI, -1, "0.50000" }, { T_PI, -1, ".00001" }, { T_PI, -1, "1.00000" },
     { T_LU, 0, ".10000" }, { T_LU, 1, "0.10000" }, { T_LU, 2, "0.000" }, { T_LU, 2, ".000" }, { T_LU, 0, ".00000" },
     { T_UI, -1, "1.000" }, { T_UI, -1, "0.001" }, { T_QI, -1, "1.000" }, { T_QI, -1, ".125" }, { T_QI, -1, "0.000" },
@@ -332,7 +339,7 @@ static int named_fields(int tag)
 {
     switch (tag) {
     case T_IT: return 4;
-    case T_BA: case T_HC: return 1;
+    case T_BA: case T_PB: case T_HC: return 1;
     case T_LU: case T_RM: return 3;
     default: return 10;
     }
@@ -353,14 +360,14 @@ static int set_field(Line *l, const Style *s, int k, const char *text)
 
 static int damage6(Deck *d, const Style *s)
 {
-    static const int data[] = { T_IT, T_BA, T_PI, T_LU, T_UI, T_QI, T_HC, T_RM };
-    static const int scant[] = { T_IT, T_BA, T_LU, T_HC, T_RM };
+    static const int data[] = { T_IT, T_BA, T_PB, T_PI, T_LU, T_UI, T_QI, T_HC, T_RM };
+    static const int scant[] = { T_IT, T_BA, T_PB, T_PB, T_LU, T_HC, T_RM };
     int at, k, i;
     Line *l;
     switch (rnd(8)) {
     case 0:
     case 1:                                        /* a misshapen number */
-        at = find_tag(d, data[rnd(8)]);
+        at = find_tag(d, data[rnd(COUNT(data))]);
         if (at < 0) return 0;
         l = &d->l[at];
         k = rnd(named_fields(l->tag));
@@ -380,14 +387,16 @@ static int damage6(Deck *d, const Style *s)
         return set_field(l, s, k, too_fine[w].text);
     }
     case 4:                                        /* a field that is not named */
-        at = find_tag(d, scant[rnd(5)]);
+        at = find_tag(d, scant[rnd(COUNT(scant))]);
         if (at < 0) return 0;
         l = &d->l[at];
         k = between(named_fields(l->tag), 9);
         if (pct(40)) k = named_fields(l->tag);
+        if (l->tag == T_PB && pct(30))             /* as if a storm had a name */
+            return set_field(l, s, 1, pct(50) ? "TYPE2" : "STORM.10");
         return set_field(l, s, k, pct(40) ? "0" : pct(50) ? "1" : pct(50) ? "X" : ".");
     case 5:                                        /* eleven fields */
-        at = find_tag(d, data[rnd(8)]);
+        at = find_tag(d, data[rnd(COUNT(data))]);
         if (at < 0) return 0;
         l = &d->l[at];
         if (l->form != FREE) return 0;
@@ -429,6 +438,8 @@ static const struct { int tag, field; const char *text; } outside[] = {
     { T_IT, 0, "999999999" }, { T_IT, 3, "999999999" },
     { T_BA, 0, "0" }, { T_BA, 0, "0.00" }, { T_BA, 0, "" }, { T_BA, 0, "10000" }, { T_BA, 0, "-.01" }, { T_BA, 0, "-1" },
     { T_BA, 0, "999999" }, { T_BA, 0, "9999999.99" }, { T_BA, 0, "10000.00" },
+    { T_PB, 0, "100.0001" }, { T_PB, 0, "100.01" }, { T_PB, 0, "101" }, { T_PB, 0, "-.0001" }, { T_PB, 0, "-1" },
+    { T_PB, 0, "99999.9999" }, { T_PB, 0, "999999" },
     { T_PI, -1, "20.0001" }, { T_PI, -1, "-.0001" }, { T_PI, -1, "21" }, { T_PI, -1, "-20" }, { T_PI, -1, "99999.9999" },
     { T_LU, 0, "20.0001" }, { T_LU, 0, "20.1" }, { T_LU, 0, "-.0001" }, { T_LU, 0, "999999999" },
     { T_LU, 1, "20.0001" }, { T_LU, 1, "-1" }, { T_LU, 1, "100" }, { T_LU, 1, "-.0001" },
@@ -493,7 +504,7 @@ static int damage8(Deck *d, const Net *n, const Style *s)
 
 static int damage9(Deck *d, const Net *n, const Style *s)
 {
-    static const int data[] = { T_BA, T_PI, T_LU, T_UI, T_QI, T_HC, T_RM };
+    static const int data[] = { T_BA, T_PI, T_LU, T_UI, T_QI, T_HC, T_RM, T_PB };
     int kk = find_tag(d, T_KK), end, i, has[T_ZZ + 1] = { 0 }, tag;
     if (kk < 0)
         return 0;
@@ -508,26 +519,27 @@ static int damage9(Deck *d, const Net *n, const Style *s)
                 drop(d, i, 1);
         return 1;
     case 1:                                        /* one of the set taken away */
-        tag = data[rnd(7)];
+        if (has[T_PI] && !has[T_PB] && pct(30)) return 0;   /* sooner from a block with a total */
+        tag = data[rnd(7)];                        /* the total itself may be lacking */
         if (!has[tag] || (tag == T_BA && has[T_QI])) return 0;
         for (i = end - 1; i > kk; i--)
             if (d->l[i].tag == tag)
                 drop(d, i, 1);
         return 1;
     case 2:                                        /* a foreign one put in */
-        tag = data[rnd(7)];
-        if (has[tag] || (tag == T_BA && has[T_QI])) return 0;
+        tag = pct(25) ? T_PB : data[rnd(7)];       /* a total belongs to runoff alone */
+        if (has[tag] || (tag == T_BA && has[T_QI]) || (tag == T_PB && has[T_PI])) return 0;
         plain_record(insert(d, between(kk + 1, end), tag), s, n);
         return 1;
     default:                                       /* a new block with part of a set */
         i = boundary(d, 1);
         if (i < 0) return 0;
         plain_record(insert(d, i++, T_KK), s, n);
-        tag = rnd(128);
-        for (kk = 0; kk < 7; kk++)
+        tag = rnd(256);
+        for (kk = 0; kk < 8; kk++)
             if (tag >> kk & 1)
                 plain_record(insert(d, i++, data[kk]), s, n);
-        return tag != 0x0F && tag != 0x10 && tag != 0x11 && tag != 0x20 && tag != 0x40;
+        return (tag & 0x7F) != 0x0F && tag != 0x10 && tag != 0x11 && tag != 0x20 && tag != 0x40;
     }
 }
 
@@ -595,6 +607,166 @@ static int storm_block(Deck *d, int at, const Net *n, const Style *s, const char
     return 5;
 }
 
+/* ---- 18: a total without a pattern ---- */
+
+enum { LACKS_BA = 1, LACKS_LU = 2, LACKS_UI = 4, HAS_QI = 8, HAS_HC = 16, HAS_RM = 32, LAST_DROP = 64 };
+
+/* A line of a pattern without rain, or with the least of it at the end. */
+static void dry_line(Line *l, const Style *s, int most, int drop_at_end)
+{
+    static const char *const nothing[] = { "0", "0.0", "0.0000", ".0", "-0", "+0.", "00" };
+    int k, c = most < 1 ? 0 : between(0, most < 10 ? most : 10);
+    if (drop_at_end && c == 0) c = 1;
+    l->nf = c;
+    for (k = 0; k < c; k++)
+        strcpy(l->f[k], k + 1 < c && pct(30) ? "" : nothing[rnd(COUNT(nothing))]);
+    if (drop_at_end)
+        strcpy(l->f[c - 1], ".0001");
+    line_compose(l, s);
+}
+
+/* A block whose total has nothing to be cut by; its records in any order, some
+   lacking or foreign ones added where that is asked for.  The lines it took. */
+static int dry_block(Deck *d, int at, const Net *n, const Style *s, int how)
+{
+    static const char *const totals[] = { ".0001", "100", "4.37", "1", "0.5", "99.99", "7", "+2." };
+    static const int more[] = { T_QI, T_HC, T_RM };
+    int tags[8], c = 0, i, start = at;
+    line_name(insert(d, at++, T_KK), (const unsigned char *)"DRY", 3, 5);
+    if (!(how & LACKS_BA)) tags[c++] = T_BA;
+    if (!(how & LACKS_LU)) tags[c++] = T_LU;
+    if (!(how & LACKS_UI)) tags[c++] = T_UI;
+    tags[c++] = T_PB;
+    tags[c++] = T_PI;
+    for (i = 0; i < 3; i++)
+        if (how & (HAS_QI << i)) tags[c++] = more[i];
+    for (i = c - 1; i > 0; i--) {
+        int o = rnd(i + 1), t = tags[i];
+        tags[i] = tags[o];
+        tags[o] = t;
+    }
+    for (i = 0; i < c; i++) {
+        Line *l = insert(d, at++, tags[i]);
+        if (tags[i] == T_PB)
+            put(l, s, 1, totals[rnd(COUNT(totals))], "", "");
+        else if (tags[i] == T_PI)
+            dry_line(l, s, n->nq, how & LAST_DROP);
+        else if (tags[i] == T_UI && pct(20))
+            line_text(l, "UI");
+        else
+            plain_record(l, s, n);
+    }
+    touched = &d->l[start];
+    return at - start;
+}
+
+/* Takes the rain off a block that the deck has, and gives it a total. */
+static int dry_out(Deck *d, const Style *s)
+{
+    int at = find_tag(d, pct(60) && first_tag(d, T_PB) >= 0 ? T_PB : T_PI), kk, end, i, left, pb = -1, pi = 0;
+    if (at < 0)
+        return 0;
+    for (kk = at; kk > 0 && d->l[kk].tag != T_KK; kk--)
+        ;
+    end = closing_line(d, at);
+    int empty = pct(30);
+    for (i = end - 1; i > kk; i--) {
+        if (d->l[i].tag == T_PB) pb = i;
+        if (d->l[i].tag != T_PI) continue;
+        left = d->l[i].nf;
+        if (empty && pi++ > 0) {                   /* one PI, without values */
+            drop(d, i, 1);
+            if (pb > i) pb--;
+            continue;
+        }
+        dry_line(&d->l[i], s, empty ? 0 : left, 0);
+        if (empty) line_text(&d->l[i], "PI");
+    }
+    if (pb < 0) {
+        end = closing_line(d, kk + 1);
+        pb = between(kk + 1, end);
+        insert(d, pb, T_PB);
+        put(&d->l[pb], s, 1, pct(50) ? ".0001" : "2", "", "");
+        return 1;
+    }
+    return pct(40) || set_field(&d->l[pb], s, 0, pct(50) ? ".0001" : "100");
+}
+
+static int damage18(Deck *d, const Net *n, const Style *s)
+{
+    static const char *const count[] = { "2", "3", "4", "5" };
+    int zz = last_line_of_deck(d), at, h, kk = 0, i;
+    for (i = 0; i < zz; i++)
+        kk += d->l[i].tag == T_KK;
+    if (kk >= 150 && pct(70)) {                    /* the 200th block, closed by the 201st KK */
+        int rn = 1, rk = 1, rx = 0;
+        char a[16], b[16], c[16];
+        rm_pick(n->m, RM_INSIDE, &rn, &rk, &rx);
+        number_write(a, rn, 0, 6, 0);
+        number_write(b, rk, 2, 6, 0);
+        number_write(c, rx, 2, 6, 0);
+        if (kk >= LIMIT_BLOCKS) {                  /* make room for it */
+            for (i = zz - 1; i > 0 && d->l[i].tag != T_KK; i--)
+                ;
+            drop(d, i, zz - i);
+            zz = i;
+            kk--;
+        }
+        for (; kk < LIMIT_BLOCKS - 1; kk++)
+            zz += block_in(d, zz, T_RM, s, a, b, c);
+        zz += dry_block(d, zz, n, s, 0);
+        plain_record(insert(d, zz, T_KK), s, n);
+        return 1;
+    }
+    switch (rnd(14)) {
+    case 0: case 1: case 2: case 3: case 4:        /* a block that is there */
+        return dry_out(d, s);
+    case 5: case 6:                                /* anywhere */
+        at = boundary(d, 1);
+        if (at < 0) return 0;
+        dry_block(d, at, n, s, 0);
+        return 1;
+    case 7:                                        /* the last, where 15 is met too */
+        dry_block(d, zz, n, s, 0);
+        return 1;
+    case 8: case 9:                                /* the 21st held */
+        at = boundary(d, 1);
+        if (at < 0) return 0;
+        h = d->l[at].tag == T_KK ? held_before(n, d->l[at].blk) : 1;
+        for (; h < LIMIT_HELD; h++)
+            at += block_in(d, at, T_QI, s, "1", "", "");
+        if (pct(15))                               /* one too early for it: 11 */
+            at += block_in(d, at, T_QI, s, "1", "", "");
+        dry_block(d, at, n, s, 0);
+        return 1;
+    case 10:                                       /* the set is wrong as well: 9 */
+        at = boundary(d, 1);
+        if (at < 0) return 0;
+        dry_block(d, at, n, s, 1 << rnd(6));
+        return 1;
+    case 11:                                       /* too few held in the next block, or in the one before */
+        at = first_tag(d, T_KK);
+        if (at < 0) return 0;
+        if (pct(50)) {
+            at += block_in(d, at, T_HC, s, count[rnd(4)], "", "");
+            dry_block(d, at, n, s, 0);
+        } else {
+            at += dry_block(d, at, n, s, 0);
+            block_in(d, at, T_HC, s, count[rnd(4)], "", "");
+        }
+        return 1;
+    case 12:                                       /* the least pattern there is: no 18 */
+        dry_block(d, zz, n, s, LAST_DROP);
+        return 1;
+    default:                                       /* the total of a dry block is no longer 0 */
+        at = find_tag(d, T_PB);
+        if (at < 0 || d->l[at].blk < 0 || d->l[at].blk >= n->nb) return 0;
+        for (i = 0; i < n->b[n->order[d->l[at].blk]].npi; i++)
+            if (n->b[n->order[d->l[at].blk]].pi[i] != 0 && pct(95)) return 0;
+        return set_field(&d->l[at], s, 0, pct(50) ? ".0001" : "12.5");
+    }
+}
+
 static int damage11(Deck *d, const Net *n, const Style *s)
 {
     int at = boundary(d, 1), h, more;
@@ -660,6 +832,29 @@ static int damage13(Deck *d, const Net *n, const Style *s)
                 put(l, s, 1, i == 0 ? "100000" : "1", "", "");
         }
         block_in(d, at, T_HC, s, c == 2 ? "2" : "3", "", "");
+        return 1;
+    }
+    if (pct(30)) {                                 /* all of a total in one interval */
+        static const char *const totals[][2] = {   /* over the limit, the last two at it and under it */
+            { "100", "1000.01" }, { "100", "99999.99" }, { "50", "2000.01" }, { "99.99", "1000.11" }, { "20", "5000.01" },
+            { "100", "1000" }, { "99.99", "1000.1" }
+        };
+        int w = rnd(COUNT(totals)), start = at;
+        if (n->nq == 1)
+            at += storm_block(d, at, n, s, "1", "", w < 5 ? "99999" : "1000", "");
+        else if (n->nq == 2 || pct(50))
+            at += storm_block(d, at, n, s, "1", "", "", totals[w][1]);
+        else
+            at += storm_block(d, at, n, s, "", "20", "", totals[w][1]);
+        if (pct(40)) {                             /* as large a sum as a total can make */
+            for (i = 0; i < 14; i++) {
+                Line *l = insert(d, at++, T_UI);
+                for (l->nf = 0; l->nf < 10; l->nf++)
+                    strcpy(l->f[l->nf], "99999");
+                line_compose(l, s);
+            }
+        }
+        put(insert(d, between(start + 1, at), T_PB), s, 1, totals[w][0], "", "");
         return 1;
     }
     if (n->nq == 1) {
@@ -784,6 +979,7 @@ int damage(Deck *d, const Net *n, const Style *s, int number)
         case 14: done = damage14(d, n, s); break;
         case 15: done = damage15(d, n, s); break;
         case 16: done = damage16(d); break;
+        case 18: done = damage18(d, n, s); break;
         default: return 0;
         }
     }
@@ -942,6 +1138,12 @@ static const struct { const char *text; int n; } scraps[] = {
     S("*FREE\nIT 60,,,4\nKK A\nQI 100000\nZZ"), S("*FREE\nIT 60,,,4\nKK A\nQI 100000.01\nZZ"), S("*FREE\nIT 60,,,4\nKK A\nQI -0\nZZ"),
     S("*FREE\nIT 60,,,4\nKK A\nQI 7,7,7,7\nKK B\nRM 1,1.00,0.20\nZZ"), S("*FREE\nIT 60,,,4\nKK A\nQI 1,2,3\nKK B\nRM 1,1.00,0.50\nZZ"),
     S("*FREE\nIT 60,,,4\nKK A\nQI 1,2,3\nKK B\nRM 1,0.50,0.20\nZZ"),
+    S("PB 1"), S("*FREE\nIT 60,,,4\nPB 1\n"), S("*FREE\nIT 60,,,4\nKK A\nPB 1\nZZ"), S("*FREE\nIT 60,,,4\nKK A\nPB 1\nPB 1\nZZ"),
+    S("*FREE\nIT 60,,,4\nKK A\nPB 1\nQI 1\nZZ"), S("*FREE\nIT 60,,,4\nKK A\nBA 1\nPB 1,0\nPI 1\nLU\nUI 1\nZZ"),
+    S("*FREE\nIT 60,,,4\nKK A\nBA 1\nPB\nPI\nLU\nUI 1\nZZ"), S("*FREE\nIT 60,,,4\nKK A\nBA 1\nPB\nPI 1,2\nLU\nUI 1\nZZ"),
+    S("*FREE\nIT 60,,,4\nKK A\nBA 1\nPB .0001\nPI\nLU\nUI 1\nZZ"), S("*FREE\nIT 60,,,4\nKK A\nBA 1\nPB 100\nPI 0,0\nLU\nUI\nZZ"),
+    S("*FREE\nIT 60,,,4\nKK A\nPI 1,2,4\nBA 1\nPB .0001\nLU\nUI 1\nZZ"), S("*FREE\nIT 60,,,4\nKK A\nBA 1\nPB 100,,,\nPI 20\nLU\nUI 1000\nZZ"),
+    S("*FREE\nIT 60,,,4\nKK A\nBA 1\nPB 100\nPI 20\nLU\nUI 1000.01\nZZ"), S("IT    60                       4\nKK A\nBA     1\nPB  4.37\nPI     1       3\nLU\nUI     1\nZZ"),
     S("ID POND\n*FREE\nIT 60,,,4\nKK UP\nBA 1.50\nPI 0.50,0.30,0.10\nLU 0.50,0.10\nUI 10,4\nKK RIV\nRM 1,1.00,0.20\nKK SIDE\nQI 1,2,2,1\nKK OUT\nHC 2\nZZ\n")
 #undef S
 };

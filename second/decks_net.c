@@ -1,5 +1,6 @@
 /* Random networks: blocks, their values and the order in which they stand.
-   Every value keeps the limits of document 01, unless flows are to be wild. */
+   Every value keeps the limits of document 01 and of document 02, CR 1, unless
+   flows are to be wild. */
 #include <string.h>
 #include "decks.h"
 
@@ -149,10 +150,103 @@ static int any_area(void)
     }
 }
 
+static int64_t pattern_sum(const Block *b)
+{
+    int64_t sum = 0;
+    int i;
+    for (i = 0; i < b->npi; i++)
+        sum += b->pi[i];
+    return sum;
+}
+
+/* Depth units fallen after the first `count` intervals. */
+static int64_t fallen(const Block *b, int count)
+{
+    int64_t sum = 0;
+    int i;
+    for (i = 0; i < count; i++)
+        sum += b->pi[i];
+    if (!b->has_pb)
+        return 60 * sum;
+    return b->pb == 0 ? 0 : 60 * (int64_t)b->pb * sum / pattern_sum(b);
+}
+
+/* A total that is hard to cut: at a limit, tiny, prime, a multiple of the
+   pattern's sum, that sum itself. */
+static int any_total(int64_t sum)
+{
+    static const int prime[] = {
+        2, 3, 7, 13, 61, 97, 211, 997, 9973, 31337, 43691, 99991, 199999, 611953, 999983
+    };
+    switch (rnd(12)) {
+    case 0: return 1;
+    case 1: return LIMIT_PB;
+    case 2: return LIMIT_PB - 1;
+    case 3: case 4: return prime[rnd((int)(sizeof prime / sizeof prime[0]))];
+    case 5: return sum <= LIMIT_PB ? (int)sum : LIMIT_PB;
+    case 6: case 7: return sum <= LIMIT_PB ? (int)(sum * between(1, (int)(LIMIT_PB / sum))) : between(1, LIMIT_PB);
+    case 8: return between(1, 300);
+    case 9: return between(1, LIMIT_PB);
+    default: return between(1, 100000);
+    }
+}
+
+/* Puts a total on the block and makes of its rain a pattern. */
+static void storm_total(Net *n, Block *b, int maxlist)
+{
+    int i, first, last;
+    b->has_pb = 1;
+    switch (rnd(14)) {
+    case 0:                                        /* nothing falls, in any pattern */
+        b->pb = 0;
+        return;
+    case 1:                                        /* nothing falls, and no pattern */
+        for (i = 0; i < b->npi; i++)
+            b->pi[i] = 0;
+        if (pct(30)) b->npi = 0;
+        b->pb = 0;
+        return;
+    case 2:                                        /* a single value */
+        b->npi = 1;
+        b->pi[0] = pct(30) ? 1 : pct(30) ? LIMIT_PI : between(1, LIMIT_PI);
+        break;
+    case 3:                                        /* one value among zeros */
+        first = rnd(b->npi);
+        for (i = 0; i < b->npi; i++)
+            b->pi[i] = i == first ? between(1, LIMIT_PI) : 0;
+        break;
+    case 4: case 5:                                /* zeros before and behind */
+        first = rnd(b->npi);
+        last = b->npi > 0 ? between(first, b->npi - 1) : 0;
+        for (i = 0; i < b->npi; i++)
+            if (i < first || i > last) b->pi[i] = 0;
+        break;
+    case 6: case 7: {                              /* every interval alike: the greatest, the least or any */
+        int v = pct(40) ? LIMIT_PI : pct(50) ? 1 : between(1, LIMIT_PI);
+        if (maxlist >= 10 || n->nq <= 30) b->npi = n->nq;
+        for (i = 0; i < b->npi; i++)
+            b->pi[i] = v;
+        if (b->npi > 0 && pct(50)) {               /* less than a unit for many */
+            b->pb = pct(60) ? 1 : between(1, 3);
+            return;
+        }
+        break;
+    }
+    default:
+        break;
+    }
+    if (b->npi > 0 && pattern_sum(b) == 0 && pct(80)) {
+        first = rnd(b->npi);
+        b->pi[first] = between(1, LIMIT_PI);
+    }
+    int64_t sum = pattern_sum(b);
+    b->pb = sum > 0 ? any_total(sum) : 0;
+}
+
 static void runoff(Net *n, Block *b, int maxlist, int64_t budget, int wild)
 {
     static const int tops[] = { 1, 7, 100, 2500, 10000, 10000, 30000, 200000 };
-    int i, total = 0, most = least(n->nq, maxlist);
+    int i, most = least(n->nq, maxlist);
     int pmax = tops[rnd(8)];
     b->kind = 1;
     b->has_ba = 1;
@@ -163,10 +257,14 @@ static void runoff(Net *n, Block *b, int maxlist, int64_t budget, int wild)
         int r = rnd(10);
         b->pi[i] = r < 3 ? 0 : r < 4 ? pmax : between(0, pmax);
     }
+    if (pct(33))
+        storm_total(n, b, maxlist);
     most = least(LIMIT_UNITS, maxlist);
     b->nui = pct(4) ? 0 : between(1, most);
     if (pct(5)) b->nui = most;
-    int64_t umax = budget / ((int64_t)60 * pmax * (b->nui > 0 ? b->nui : 1));
+    /* with a total no ordinate passes the whole storm on the greatest unit ordinate */
+    int64_t umax = !b->has_pb ? budget / ((int64_t)60 * pmax * (b->nui > 0 ? b->nui : 1))
+                 : b->pb > 0 ? budget / ((int64_t)60 * b->pb) : LIMIT_UI;
     if (wild || umax > LIMIT_UI) umax = LIMIT_UI;
     for (i = 0; i < b->nui; i++) {
         int r = rnd(10);
@@ -178,9 +276,10 @@ static void runoff(Net *n, Block *b, int maxlist, int64_t budget, int wild)
         for (i = n->nq - i; i >= 0 && i < b->nui; i++)
             b->ui[i] = LIMIT_UI;
     }
-    int stop = rnd(b->npi + 1);
-    for (i = 0; i < stop; i++)
-        total += b->pi[i];
+    /* a cut total need not be a whole loss: then the loss below it is one too small */
+    int64_t depth = fallen(b, rnd(b->npi + 1));
+    int total = depth / 60 > LIMIT_PI ? LIMIT_PI : (int)(depth / 60);
+    int all = fallen(b, b->npi) / 60 > LIMIT_PI ? LIMIT_PI : (int)(fallen(b, b->npi) / 60);
     switch (rnd(12)) {
     case 0: case 1: case 2: b->lu1 = 0; break;
     case 3: case 4: b->lu1 = total; break;
@@ -188,12 +287,12 @@ static void runoff(Net *n, Block *b, int maxlist, int64_t budget, int wild)
     case 6: b->lu1 = total + 1; break;
     case 7: b->lu1 = LIMIT_PI; break;
     case 8: b->lu1 = between(0, LIMIT_PI); break;
-    default: b->lu1 = between(0, pmax); break;
+    default: b->lu1 = between(0, b->has_pb ? all : pmax); break;
     }
     if (b->lu1 < 0) b->lu1 = 0;
     if (b->lu1 > LIMIT_PI) b->lu1 = LIMIT_PI;
-    int p = b->npi > 0 ? b->pi[rnd(b->npi)] : 0;
-    int64_t even = (int64_t)60 * p / n->m;
+    i = rnd(b->npi);
+    int64_t even = b->npi > 0 ? (fallen(b, i + 1) - fallen(b, i)) / n->m : 0;
     switch (rnd(12)) {
     case 0: case 1: case 2: b->lu2 = 0; break;
     case 3: b->lu2 = 1; break;
@@ -378,6 +477,12 @@ void net_limit(Net *n, int leaves, int excess)
             b->ba = any_area();
             b->npi = n->nq;
             for (k = 0; k < b->npi; k++) b->pi[k] = 1;
+            if (pct(40)) {                         /* the same rain, cut from a total */
+                int v = between(1, LIMIT_PI);
+                for (k = 0; k < b->npi; k++) b->pi[k] = v;
+                b->has_pb = 1;
+                b->pb = b->npi;
+            }
             b->lu2 = 59;
             b->nui = 1;
             b->ui[0] = 1;
@@ -396,9 +501,20 @@ void net_limit(Net *n, int leaves, int excess)
             b->npi = count;
             for (k = 0; k < count; k++)
                 b->pi[k] = steady || k == at ? 10000 : 0;
+            int wet = steady ? count : 1;          /* intervals with rain */
             if (q % 20 == 0 && pct(40)) {          /* twenty inches on a twentieth of the graph */
                 for (k = 0; k < count; k++) b->pi[k] *= 20;
                 q /= 20;
+            } else if (wet <= 100 && pct(50)) {    /* an inch to each, or all of a hundred to one, from a total */
+                int v = between(1, LIMIT_PI);
+                for (k = 0; k < count; k++)
+                    if (b->pi[k] > 0) b->pi[k] = v;
+                b->has_pb = 1;
+                b->pb = 10000 * wet;
+                if (wet == 1 && q % 100 == 0 && pct(60)) {
+                    b->pb = LIMIT_PB;
+                    q /= 100;
+                }
             }
             b->nui = 1;
             b->ui[0] = q;

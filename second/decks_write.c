@@ -5,7 +5,7 @@
 #include "decks.h"
 
 static const char *const idents[] = {
-    "ID", "IT", "KK", "KM", "BA", "PI", "LU", "UI", "QI", "HC", "RM", "ZZ"
+    "ID", "IT", "KK", "KM", "BA", "PB", "PI", "LU", "UI", "QI", "HC", "RM", "ZZ"
 };
 
 const char *tag_ident(int tag)
@@ -344,22 +344,23 @@ static void list_line(Writer *w, int tag, const int *v, int n, int *pos, int pla
 
 static void block_write(Writer *w, const Block *b)
 {
-    static const int two[] = { 2 }, none[] = { 0 }, lup[] = { 4, 4, 2 }, rmp[] = { 0, 2, 2 };
-    int open[7] = { 0 }, pos[3] = { 0, 0, 0 }, last = -1, k, i;
+    static const int four[] = { 4 }, two[] = { 2 }, none[] = { 0 }, lup[] = { 4, 4, 2 }, rmp[] = { 0, 2, 2 };
+    int open[8] = { 0 }, pos[3] = { 0, 0, 0 }, last = -1, k, i;
     int comma = memchr(b->name, ',', (size_t)b->nlen) != NULL;
     if (comma && w->form == FREE)
         control(w, FIXED);
     line_name(add(w, T_KK), b->name, b->nlen, w->s->ptext);
-    /* 0 BA, 1 PI, 2 LU, 3 UI, 4 QI, 5 HC, 6 RM */
+    /* 0 BA, 1 PB, 2 PI, 3 LU, 4 UI, 5 QI, 6 HC, 7 RM */
     open[0] = b->has_ba;
-    open[1] = open[2] = open[3] = b->kind == 1;
-    open[4] = b->kind == 2;
-    open[5] = b->kind == 3;
-    open[6] = b->kind == 4;
+    open[1] = b->has_pb;
+    open[2] = open[3] = open[4] = b->kind == 1;
+    open[5] = b->kind == 2;
+    open[6] = b->kind == 3;
+    open[7] = b->kind == 4;
     int plain = pct(50);
     for (;;) {
-        int left[7], n = 0;
-        for (i = 0; i < 7; i++)
+        int left[8], n = 0;
+        for (i = 0; i < 8; i++)
             if (open[i])
                 left[n++] = i;
         if (n == 0)
@@ -377,37 +378,44 @@ static void block_write(Writer *w, const Block *b)
             open[0] = 0;
             break;
         }
-        case 1:
-            list_line(w, T_PI, b->pi, b->npi, &pos[0], 4);
-            open[1] = pos[0] < b->npi || pct(1);
+        case 1: {
+            int v[] = { b->pb };
+            if (v[0] == 0 && pct(40)) v[0] = -1;
+            record(w, T_PB, 1, v, four, NULL);
+            open[1] = 0;
             break;
-        case 2: {
+        }
+        case 2:
+            list_line(w, T_PI, b->pi, b->npi, &pos[0], 4);
+            open[2] = pos[0] < b->npi || pct(1);
+            break;
+        case 3: {
             int v[] = { b->lu1, b->lu2, pct(70) ? -1 : 0 };
             if (v[0] == 0 && pct(20)) v[0] = -1;
             if (v[1] == 0 && pct(20)) v[1] = -1;
             record(w, T_LU, 3, v, lup, NULL);
-            open[2] = 0;
+            open[3] = 0;
             break;
         }
-        case 3:
-            list_line(w, T_UI, b->ui, b->nui, &pos[1], 2);
-            open[3] = pos[1] < b->nui || pct(1);
-            break;
         case 4:
-            list_line(w, T_QI, b->qi, b->nqi, &pos[2], 2);
-            open[4] = pos[2] < b->nqi || pct(1);
+            list_line(w, T_UI, b->ui, b->nui, &pos[1], 2);
+            open[4] = pos[1] < b->nui || pct(1);
             break;
-        case 5: {
+        case 5:
+            list_line(w, T_QI, b->qi, b->nqi, &pos[2], 2);
+            open[5] = pos[2] < b->nqi || pct(1);
+            break;
+        case 6: {
             int v[] = { b->hc };
             record(w, T_HC, 1, v, none, NULL);
-            open[5] = 0;
+            open[6] = 0;
             break;
         }
         default: {
             int v[] = { b->rn, b->rk, b->rx };
             if (v[2] == 0 && pct(20)) v[2] = -1;
             record(w, T_RM, 3, v, rmp, NULL);
-            open[6] = 0;
+            open[7] = 0;
             break;
         }
         }

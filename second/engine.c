@@ -1,5 +1,6 @@
 /* The hydrograph engine; see engine.h.  The first part holds the water
- * (document 01, 'Water, in whole units'), the second the records and their
+ * (document 01, 'Water, in whole units', and document 02, CR 1, for rain that
+ * comes as a total and a pattern), the second the records and their
  * limits, the third the blocks and the order of the refusals ('What comes
  * back').  Functions that can refuse return the refusal's number, 0 if none. */
 #include "engine.h"
@@ -27,7 +28,8 @@ enum refusal {
     TOO_MANY_BLOCKS = 14,
     NOT_ONE_HELD = 15,
     NO_END = 16,
-    SHORT_RESULT_ROOM = 17
+    SHORT_RESULT_ROOM = 17,
+    NO_PATTERN = 18
 };
 
 enum {
@@ -47,6 +49,12 @@ struct list {
     uint32_t value[ORDINATE_LIMIT];
 };
 
+/* A storm's total, in ten-thousandths, where the block has one. */
+struct storm {
+    bool given;
+    uint32_t total;
+};
+
 /* Card values: losses in ten-thousandths. */
 struct loss {
     uint32_t initial;
@@ -60,26 +68,70 @@ struct routing {
     uint32_t x;
 };
 
-/* Excess of each interval that has rain, in depth units. */
-static void find_excess(const struct list *rain, const struct loss *loss,
-                        uint32_t minutes, uint32_t *excess)
+/* The values of a pattern added up: at most 300 of 200,000. */
+static uint32_t total_of(const struct list *list)
+{
+    uint32_t total = 0;
+
+    for (unsigned i = 0; i < list->count; i++)
+        total += list->value[i];
+    return total;
+}
+
+/* Cuts a total in the shares of a pattern.  Running totals are cut, not
+ * single shares, so what one interval loses by rounding down a later one
+ * gets, and the last one makes the total whole.  No product passes 6e7 units
+ * times 6e7, which fits. */
+static void cut_rain(uint32_t total, const struct list *pattern,
+                     uint32_t *rain)
+{
+    uint64_t depth = (uint64_t)total * DEPTH_PER_TEN_THOUSANDTH;
+    uint64_t whole = total_of(pattern);
+    uint64_t running = 0;
+    uint64_t fallen = 0;
+
+    for (unsigned i = 0; i < pattern->count; i++) {
+        running += pattern->value[i];
+        uint64_t due = depth * running / whole;
+        rain[i] = (uint32_t)(due - fallen);
+        fallen = due;
+    }
+}
+
+/* Rain of each interval of the list, in depth units.  A total of 0 is no
+ * rain and asks nothing of its pattern, which may be all zero. */
+static void find_rain(const struct list *cards, const struct storm *storm,
+                      uint32_t *rain)
+{
+    if (!storm->given)
+        for (unsigned i = 0; i < cards->count; i++)
+            rain[i] = cards->value[i] * DEPTH_PER_TEN_THOUSANDTH;
+    else if (storm->total > 0)
+        cut_rain(storm->total, cards, rain);
+    else
+        memset(rain, 0, cards->count * sizeof *rain);
+}
+
+/* Takes the loss off the rain of each interval: what stays is the excess. */
+static void take_loss(uint32_t *rain, unsigned count, const struct loss *loss,
+                      uint32_t minutes)
 {
     uint64_t initial = (uint64_t)loss->initial * DEPTH_PER_TEN_THOUSANDTH;
     uint64_t uniform = (uint64_t)loss->uniform * minutes;
     uint64_t total = 0;
 
-    for (unsigned i = 0; i < rain->count; i++) {
-        uint64_t depth = (uint64_t)rain->value[i] * DEPTH_PER_TEN_THOUSANDTH;
+    for (unsigned i = 0; i < count; i++) {
+        uint64_t depth = rain[i];
         total += depth;
         if (total <= initial || depth <= uniform)
-            excess[i] = 0;
+            rain[i] = 0;
         else
-            excess[i] = (uint32_t)(depth - uniform);
+            rain[i] = (uint32_t)(depth - uniform);
     }
 }
 
 /* Each interval's excess starts a unit graph of its own in that interval.
- * The sums stay below 2e16: 150 values of 1e7 times 1.2e7 units. */
+ * The sums stay below 1e17: 150 values of 1e7 times 6e7 units. */
 static void run_off(const uint32_t *excess, unsigned excess_count,
                     const struct list *unit_graph, uint64_t *flow, unsigned nq)
 {
@@ -150,19 +202,25 @@ struct summary {
     unsigned interval;
 };
 
-/* Works before the flow limit is tested too: 300 times 2e16 fits. */
-static struct summary summarise(const uint64_t *flow, unsigned nq)
+/* Peak, its interval and sum.  Only flows within the limit are added up, so
+ * the sum fits whatever a block may come to before. */
+static enum refusal summarise(const uint64_t *flow, unsigned nq,
+                              struct summary *summary)
 {
-    struct summary s = { flow[0], flow[0], 1 };
+    struct summary s = { flow[0], 0, 1 };
 
     for (unsigned i = 1; i < nq; i++) {
-        s.sum += flow[i];
         if (flow[i] > s.peak) {
             s.peak = flow[i];
             s.interval = i + 1;
         }
     }
-    return s;
+    if (s.peak > FLOW_LIMIT)
+        return FLOW_OVER_LIMIT;
+    for (unsigned i = 0; i < nq; i++)
+        s.sum += flow[i];
+    *summary = s;
+    return ACCEPTED;
 }
 
 /* ---- Records and their limits ----------------------------------------- */
@@ -177,6 +235,7 @@ enum record {
     REC_KM,
     REC_ZZ,
     REC_BA,
+    REC_PB,
     REC_PI,
     REC_LU,
     REC_UI,
@@ -206,6 +265,7 @@ static const struct form IT_FORM = {
          { 0, false, 1, ORDINATE_LIMIT } }
 };
 static const struct form BA_FORM = { 1, { { 2, false, 1, 999999 } } };
+static const struct form PB_FORM = { 1, { { 4, false, 0, 1000000 } } };
 static const struct form LU_FORM = {
     3, { { 4, false, 0, 200000 }, { 4, false, 0, 200000 }, { 2, false, 0, 0 } }
 };
@@ -235,6 +295,7 @@ static enum record identify(struct text line)
     case IDENTIFIER('K', 'M'): return REC_KM;
     case IDENTIFIER('Z', 'Z'): return REC_ZZ;
     case IDENTIFIER('B', 'A'): return REC_BA;
+    case IDENTIFIER('P', 'B'): return REC_PB;
     case IDENTIFIER('P', 'I'): return REC_PI;
     case IDENTIFIER('L', 'U'): return REC_LU;
     case IDENTIFIER('U', 'I'): return REC_UI;
@@ -320,6 +381,7 @@ struct block {
     struct text name;
     uint32_t area;              /* hundredths of a square mile */
     uint32_t combine;
+    struct storm storm;
     struct loss loss;
     struct routing routing;
     struct list rain;
@@ -358,6 +420,7 @@ static void open_block(struct block *block, struct text name)
     block->seen = 0;
     block->name = name;
     block->area = 0;
+    block->storm = (struct storm){ false, 0 };
     block->rain.count = 0;
     block->unit_graph.count = 0;
     block->inflow.count = 0;
@@ -365,7 +428,8 @@ static void open_block(struct block *block, struct text name)
 
 static enum kind kind_of(unsigned seen)
 {
-    if (seen == (bit(REC_BA) | bit(REC_PI) | bit(REC_LU) | bit(REC_UI)))
+    if ((seen & ~bit(REC_PB))
+        == (bit(REC_BA) | bit(REC_PI) | bit(REC_LU) | bit(REC_UI)))
         return KIND_RUNOFF;
     if ((seen & ~bit(REC_BA)) == bit(REC_QI))
         return KIND_INFLOW;
@@ -431,11 +495,15 @@ static enum refusal close_block(struct run *run)
     const struct block *block = &run->block;
     enum kind kind = kind_of(block->seen);
     unsigned taken = 0;
+    struct summary summary;
     enum refusal refusal = ACCEPTED;
-    uint32_t excess[ORDINATE_LIMIT];
+    uint32_t rain[ORDINATE_LIMIT];
 
     if (kind == KIND_NONE)
         return NO_SET;
+    /* Only a block of kind 1 has a total here: with any other set it is 9. */
+    if (block->storm.total > 0 && total_of(&block->rain) == 0)
+        return NO_PATTERN;
     if (kind == KIND_CONFLUENCE)
         taken = block->combine;
     else if (kind == KIND_ROUTING)
@@ -450,8 +518,9 @@ static enum refusal close_block(struct run *run)
     uint64_t *flow = run->room->work + (size_t)place * ORDINATE_LIMIT;
     switch (kind) {
     case KIND_RUNOFF:
-        find_excess(&block->rain, &block->loss, run->minutes, excess);
-        run_off(excess, block->rain.count, &block->unit_graph, flow, run->nq);
+        find_rain(&block->rain, &block->storm, rain);
+        take_loss(rain, block->rain.count, &block->loss, run->minutes);
+        run_off(rain, block->rain.count, &block->unit_graph, flow, run->nq);
         break;
     case KIND_INFLOW:
         flow_in(&block->inflow, flow, run->nq);
@@ -465,12 +534,10 @@ static enum refusal close_block(struct run *run)
     case KIND_NONE:
         break;
     }
+    if (refusal == ACCEPTED)
+        refusal = summarise(flow, run->nq, &summary);
     if (refusal != ACCEPTED)
         return refusal;
-
-    struct summary summary = summarise(flow, run->nq);
-    if (summary.peak > FLOW_LIMIT)
-        return FLOW_OVER_LIMIT;
 
     run->area[place] = area_left(run, kind, place, taken);
     run->held = place + 1;
@@ -492,6 +559,7 @@ static bool in_place(const struct run *run, enum record record)
     case REC_QI:
         return run->phase == IN_BLOCK;
     case REC_BA:
+    case REC_PB:
     case REC_LU:
     case REC_HC:
     case REC_RM:
@@ -562,6 +630,10 @@ static enum refusal take_data(struct run *run, enum record record,
         break;
     case REC_HC:
         refusal = read_form(line, free_form, &HC_FORM, &block->combine);
+        break;
+    case REC_PB:
+        refusal = read_form(line, free_form, &PB_FORM, value);
+        block->storm = (struct storm){ true, value[0] };
         break;
     case REC_LU:
         refusal = read_form(line, free_form, &LU_FORM, value);

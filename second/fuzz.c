@@ -16,7 +16,8 @@
 enum {
     ROUNDS = 6000,
     DECK_ROOM = 70000,
-    MOST_NAMED = 5      /* blocks of a deck that are asked for by name */
+    MOST_NAMED = 5,     /* blocks of a deck that are asked for by name */
+    LAST_REFUSAL = 18
 };
 
 static const char *const seeds[] = {
@@ -37,7 +38,13 @@ static const char *const seeds[] = {
     "UI 0,1\nKK R\nRM 1,.01,.16\nKK R2\nRM 50,24,0\nZZ",
 
     "*FREE\nIT 60,,,2\nKK 1\nQI 1\nKK 2\nQI 2\nKK 3\nQI 3\nKK 4\nQI 4\nKK 5\n"
-    "QI 5\nKK S\nHC 5\nKK 6\nQI 6,7\nKK T\nHC 2\nKK R\nRM 1,1,0.5\nZZ\n"
+    "QI 5\nKK S\nHC 5\nKK 6\nQI 6,7\nKK T\nHC 2\nKK R\nRM 1,1,0.5\nZZ\n",
+
+    "*FREE\nIT 30,,,8\nKK A\nBA 2\nPB 4.3701\nPI 1,3,,7\nPI 0.5\nLU 0.2,0.1\n"
+    "UI 40,20,10\nKK B\nBA 1\nPI 0,0\nPB 0\nLU\nUI 5\nKK C\nHC 2\nZZ\n",
+
+    "IT    15                       5\nKK A\nPB   100\nUI  1000\nLU\nBA     1\n"
+    "PI     0      20\nKK R\nRM     1    0.25    0.20\nZZ\n"
 };
 
 static const char *const scraps[] = {
@@ -46,7 +53,8 @@ static const char *const scraps[] = {
     "KK X\n", "KK LONGNAME\n", "KM\n", "*FREE\n", "*FIX\n", "*FREE X\n", "ID\n",
     "IT 60,,,4\n", "BA 1\n", "PI 1,2\n", "LU 0,0\n", "UI 1\n", "QI 1\n", "HC 2\n",
     "RM 1,1,.2\n", "ZZ\n", "KK X\nQI 1\n", "KK X\nHC 2\n", "KK X\nRM 1,1,.2\n",
-    "KK X\nQI 1\nKK Y\nHC 2\n"
+    "KK X\nQI 1\nKK Y\nHC 2\n", "PB 3.1\n", "PB 0\n", "PB\n", "PI 0\n", "PI\n",
+    "PB 100.0001\n", "KK X\nBA 1\nPB 1\nPI 0\nLU\nUI 1\n"
 };
 
 enum { SEEDS = sizeof seeds / sizeof *seeds,
@@ -417,14 +425,14 @@ static void check_deck(unsigned *count)
 
 int main(void)
 {
-    unsigned count[18] = { 0 };
+    unsigned count[LAST_REFUSAL + 1] = { 0 };
 
     for (unsigned k = 0; k < ROUNDS; k++) {
         make_deck();
         check_deck(count);
     }
     printf("fuzz: %d decks, %u accepted; refused as", ROUNDS, count[0]);
-    for (unsigned k = 1; k <= 17; k++)
+    for (unsigned k = 1; k <= LAST_REFUSAL; k++)
         if (count[k] > 0)
             printf(" %u:%u", k, count[k]);
     putchar('\n');

@@ -1,10 +1,17 @@
 # kit.sh, for other scripts to source: where the Rattle kit is, how a program that it linked is started, and the numbers of the refusals.
 # shellcheck shell=sh disable=SC2034
 
-refusals=17
+# The refusals are 1 to this number. Two of them depend on the room that is lent: cases meet them, bundles do not.
+refusals=18
+room_refusals='1 17'
 
 # numbers FIRST LAST: each number from the first to the last
 numbers() { awk -v i="$1" -v last="$2" 'BEGIN { for (; i <= last; i++) print i }'; }
+
+# deck_refusals: the refusals that depend on the deck alone, on one line; a bundle has to meet each of them
+deck_refusals() {
+    numbers 1 "$refusals" | awk -v rooms=" $room_refusals " '!index(rooms, " " $1 " ") { printf "%s ", $1 }'
+}
 
 # find_kit: sets rt, and from its place tools, loader and, where the machine is not x86-64, emulator. Fails where there is no kit.
 find_kit() {

@@ -1,7 +1,8 @@
 #!/usr/bin/env bash
 # Self-test of the second program.  Builds it and the fuzz driver with the
 # address and undefined-behaviour sanitizers, runs small decks against outcomes
-# worked out by hand from document 01, then the fuzz.  The last line counts.
+# worked out by hand from document 01 and document 02, CR 1, then the fuzz.  The
+# last line counts.
 #
 # Decks and expected texts are written with printf's escapes (\n, \r, \xHH).
 set -u
@@ -251,7 +252,7 @@ refused 3 4 "${free}KK A\nZZ\x80\n"                 # 3 before 9
 
 for line in XX kk Kk K ' K' ' KK' '  KK A' 1 '*' '*F' '*FR' '*FREEX' '*FREE X' \
     '*FREE,' '*FREE.' '*FIXED' '*FIX 1' '*FIXX' '* FREE' '*free' '*FI' 'Z' \
-    ',' '* ' '**' 'BI 1' 'PB 1' 'IN 1' 'LS' 'IO' 'Z Z' '*FRE E' '*FRE'; do
+    ',' '* ' '**' 'BI 1' 'PR 1' 'pb 1' 'P' 'IN 1' 'LS' 'IO' 'Z Z' '*FRE E' '*FRE'; do
     refused 4 2 "ID\n$line\n"
     refused 4 3 "$free$line\n"
 done
@@ -275,7 +276,7 @@ refused 5 1 'KK\n'
 refused 5 1 'ZZ\n'
 refused 5 1 'ZZ'
 refused 5 2 'ID\nZZ\n'
-for line in BA PI LU UI QI HC RM; do
+for line in BA PB PI LU UI QI HC RM; do
     refused 5 1 "$line\n"
     refused 5 3 "$free$line\n"
     refused 5 3 "$free$line x\n"
@@ -529,16 +530,18 @@ flows '600000 0 1200000 600000' "${free}KK A\nPI 1\nBA 1\nPI ,2\nKM\nLU\n*FIX\n$
 
 # ---- 9: sets ------------------------------------------------------------
 
-cards=('BA 1\n' 'PI 1\n' 'LU\n' 'UI .01\n' 'QI 1\n' 'HC 2\n' 'RM 1,1,.2\n')
+cards=('BA 1\n' 'PI 1\n' 'LU\n' 'UI .01\n' 'QI 1\n' 'HC 2\n' 'RM 1,1,.2\n' 'PB 1\n')
 # every choice of records, behind two held hydrographs: 6 + 1 lines, then ZZ
-for ((set = 0; set < 128; set++)); do
+for ((set = 0; set < 256; set++)); do
     body= count=0
-    for ((k = 0; k < 7; k++)); do
+    for ((k = 0; k < 8; k++)); do
         if ((set >> k & 1)); then body+=${cards[k]} count=$((count + 1)); fi
     done
     case $set in
     15) # BA PI LU UI
         refused 15 12 "${two}KK C\n${body}ZZ\n" ;;
+    143) # BA PI LU UI PB
+        refused 15 13 "${two}KK C\n${body}ZZ\n" ;;
     16) # QI
         refused 15 9 "${two}KK C\n${body}ZZ\n" ;;
     17) # QI BA
@@ -695,6 +698,246 @@ flows '540000000 540000000 540000000 540000000' "${free}KK Z\nQI 9,9,9,9\nKK A\n
 # a sum of areas may pass the limit of a single one
 lists "$(times 5 'A 2 9999.99 1.00 1 60000000\n')C 3 49999.95 5.00 1 300000000\nEND 6\n" \
     "$free$(times 5 'KK A\nBA 9999.99\nQI 1\n')KK C\nHC 5\nZZ\n"
+
+# ---- Storm totals (document 02, CR 1) ------------------------------------
+
+# storm TOTAL PATTERN [NQ [LOSS [UNITS]]]: one basin in 9 lines, PB on the
+# fifth.  With the one unit ordinate 1.00 an ordinate is 100 times the excess
+# of its interval in depth units.  An inch has 600,000 of them, 0.0001 inch 60.
+storm() {
+    printf '*FREE\\nIT 60,,,%s\\nKK A\\nBA 1\\nPB %s\\nPI %s\\nLU %s\\nUI %s\\nZZ\\n' \
+        "${3:-4}" "$1" "$2" "${4:-}" "${5:-1}"
+}
+# list CARD VALUE: 300 values, ten on a line.
+list() {
+    local line
+    line=$(times 10 ",$2")
+    times 30 "$1 ${line#,}\n"
+}
+
+flows '2000 2000 2000 0' "$(storm 0.0001 1,1,1)"        # 20, 40, 60
+# sevenths of 60: 8 4/7, 17 1/7, 25 5/7, 34 2/7, 42 6/7, 51 3/7, 60
+flows '800 900 800 900 800 900 900' "$(storm .0001 1,1,1,1,1,1,1 7)"
+flows '800 900 800 900 800 900 900 0' "$(storm .0001 20,20,20,20,20,20,20 8)"
+flows '800 900 800 900 800 900 900' "$(storm .0001 .0001,.0001,.0001,.0001,.0001,.0001,.0001 7)"
+flows '800 1700 3500 0' "$(storm .0001 1,2,4)"          # 8 4/7, 25 5/7, 60
+flows '3400 1700 900 0' "$(storm .0001 4,2,1)"          # 34 2/7, 51 3/7, 60
+flows '0 2000 0 4000' "$(storm .0001 0,1,0,2)"          # zeros before and inside
+flows '0 6000 0 0' "$(storm .0001 ,3,0,0)"              # and behind
+flows '6000 0 0 0' "$(storm .0001 7)"                   # a single value
+flows '0 0 0 6000' "$(storm .0001 ,,,.0001)"
+# 60 in 300 equal shares: the total after i intervals is i/5, rounded down
+text=$(times 60 '0 0 0 0 100 ')
+flows "${text% }" "*FREE\nIT 5,,,300\nKK A\nBA 1\nPB .0001\n$(list PI 20)LU\nUI 1\nZZ\n"
+# 780 in 300 shares: 13 i/5, that is 2, 5, 7, 10, 13 and so on
+text=$(times 60 '200 300 200 300 300 ')
+flows "${text% }" "*FREE\nIT 5,,,300\nKK A\nBA 1\nPB .0013\n$(list PI .0001)LU\nUI 1\nZZ\n"
+# the greatest total, 60,000,000; a seventh of it is 8,571,428 4/7
+flows '2000000000 2000000000 2000000000 0' "$(storm 100 1,1,1)"
+flows '857142800 857142900 857142800 857142900 857142800 857142900 857142900' "$(storm 100 1,1,1,1,1,1,1 7)"
+flows '29900 5999970100 0 0' "$(storm 100.0000 .0001,20)"   # 299.9985 to one part of 200,001
+flows '5999970000 30000 0 0' "$(storm 100 20,.0001)"        # 59,999,700.0015
+flows '0 6000 0 0' "$(storm .0001 .0001,20)"
+flows '5900 100 0 0' "$(storm .0001 20,.0001)"              # 59.9997
+# 4.37 inches are 2,622,000; the parts are 11, 34, 81 and 88 of 88:
+# 327,750; 1,013,045.45; 2,413,431.82; 2,622,000
+flows '32775000 68529500 140038600 20856900' "$(storm 4.37 .11,.23,.47,.07)"
+# all of it falls: the sum is 100 times the total
+lists 'A 1 1.00 2.33 3 262200000\nEND 1\n' "$(storm 4.37 .11,.23,.47,.07)"
+lists 'A 1 1.00 33.33 1 6000000000\nEND 1\n' "$(storm 100 7,7,7)"
+# a total that is the pattern's own sum changes nothing, twice that doubles
+flows '30000000 18000000 6000000 0' "${free}KK A\nBA 1\nPI .5,.3,.1\nLU\nUI 1\nZZ\n"
+flows '30000000 18000000 6000000 0' "$(storm 0.9 .5,.3,.1)"
+flows '60000000 36000000 12000000 0' "$(storm 1.8 .5,.3,.1)"
+# no total, no rain, whatever the pattern; a blank is 0
+for value in '' 0 0.0000 -0 +0. , ,,,; do
+    flows '0 0 0 0' "$(storm "$value" 1,2,3)"
+    flows '0 0 0 0' "$(storm "$value" 0,0)"
+    flows '0 0 0 0' "$(storm "$value" '')"
+    flows '0 0 0 0' "$(storm "$value" 20,20,20,20 4 0 99999.99)"
+done
+# PB among the lines of PI, whose values are 1, 0, 2, 3: of 600 a sixth, a
+# sixth, a half and all
+flows '100 0 200 300' "${free}KK A\nPI 1\nUI .01\nPI ,2\nPB .0010\nBA 1\nPI\nPI 3\nLU\nZZ\n"
+flows '100 0 200 300' "${free}KK A\nPI 1,,2,3\nKM\nUI .01\nLU\n*FIX\n$(fixed PB .001)\n*FREE\nBA 1\nZZ\n"
+flows '2000 2000 2000 0' "${fix}$(fixed BA 1)\n$(fixed PB .0001)\n$(fixed PI 1 1 1)\nLU\n$(fixed UI 1)\nZZ\n"
+flows '6000 0 0 0' "${fix}$(fixed BA 1)\nPB.0001\nPI 1\nLU\n$(fixed UI 1)\nZZ\n"
+flows '0 0 0 0' "${fix}$(fixed BA 1)\nPB\nPI 1\nLU\n$(fixed UI 1)\nZZ\n"
+
+# the loss reads the cut rain: 60, 120, 180, 240 against losses of 60 to 240
+flows '6000 6000 6000 6000' "$(storm .0004 1,1,1,1 4 0)"
+flows '0 6000 6000 6000' "$(storm .0004 1,1,1,1 4 .0001)"
+flows '0 0 6000 6000' "$(storm .0004 1,1,1,1 4 .0002)"
+flows '0 0 0 6000' "$(storm .0004 1,1,1,1 4 .0003)"
+flows '0 0 0 0' "$(storm .0004 1,1,1,1 4 .0004)"
+flows '6100 5900 0 0' "$(storm .0002 .0061,.0059 4 .0001)"  # one over the loss
+flows '0 6000 0 0' "$(storm .0002 .0060,.0060 4 .0001)"     # at it
+flows '0 6100 0 0' "$(storm .0002 .0059,.0061 4 .0001)"     # one under it
+flows '0 0 0 0' "$(storm .0001 20,20 4 .0001)"
+flows '10500 10500 10500 10500' "$(storm .0007 1,1,1,1 4 .0001)"
+flows '0 10500 10500 10500' "$(storm .0007 1,1,1,1 4 .0002)"
+flows '0 10500 10500 10500' "$(storm .0007 1,1,1,1 4 .0003)"
+flows '0 0 10500 10500' "$(storm .0007 1,1,1,1 4 .0004)"
+flows '4500 4500 4500 4500' "$(storm .0007 1,1,1,1 4 0,.0001)"
+flows '0 0 0 0' "$(storm .0004 1,1,1,1 4 0,.0001)"
+flows '0 100 0 0' "$(storm .0002 .0059,.0061 4 0,.0001)"
+flows '700 800 700 800 700 800 800' '*FREE\nIT 1,,,7\nKK A\nBA 1\nPB .0001\nPI 1,1,1,1,1,1,1\nLU 0,.0001\nUI 1\nZZ\n'
+# and so does the runoff: 20, 20, 20 on 1 and 2
+flows '2000 6000 6000 4000' "$(storm .0001 1,1,1 4 0 1,2)"
+# a total stays in its block, and each block may have one
+pair() { printf '%sKK A\\nBA 1\\n%sPI .5\\nLU\\nUI 1\\nKK B\\nBA 1\\n%sPI .5\\nLU\\nUI 1\\nKK C\\nHC 2\\nZZ\\n' "$free" "$1" "$2"; }
+flows '30000000 0 0 0' "$(pair 'PB 9\n' '')" 2
+flows '540000000 0 0 0' "$(pair 'PB 9\n' '')" 1
+flows '540000000 0 0 0' "$(pair '' 'PB 9\n')" 2
+flows '30000000 0 0 0' "$(pair '' 'PB 9\n')" 1
+flows '600000000 0 0 0' "$(pair 'PB 9\n' 'PB 1\n')"
+
+# 5, 6 and 7 of PB
+for value in 1 0 '' x 101 -1 1,1 0.00000; do
+    refused 5 5 "${free}KK A\nPB 1\nPB $value\nZZ\n"
+    refused 5 5 "${free}KK A\nPB\nPB $value\nZZ\n"
+    refused 5 3 "${free}PB $value\nKK A\n"
+done
+refused 5 8 "${free}KK A\nPB 1\nBA 1\nKM\n*FREE\nPB 2\nZZ\n"
+refused 5 5 "${free}KK A\nPB 1\nPB 2\nQI 1\nZZ\n"           # even where PB makes no set
+for value in x . + 1.2.3 1- 1e2 .00001 1.00000 0.00000 0000000001 1,0 1,1 '1 2' ,0 ,1 1,TYPE2 ,TYPE2 \
+    1,,0 1,,,,,,,,,0 1,,,,,,,,,,0 101,0 -1,x 101,TYPE2; do
+    refused 6 5 "${free}KK A\nBA 1\nPB $value\nZZ\n"
+done
+for value in 100.0001 100.01 101 -0.0001 -1 -100 99999.9999 999999999; do
+    refused 7 5 "${free}KK A\nBA 1\nPB $value\nZZ\n"
+done
+for value in 100 100.0000 +100. 000000100 ' 100 ,,'; do
+    flows '6000000000 0 0 0' "$(storm "$value" 1)"
+done
+flows '5999994000 0 0 0' "$(storm 99.9999 1)"
+refused 6 3 "${fix}PB      1\n"                     # column 9 is field 2
+refused 6 3 "${fix}PB12.3456\n"                     # and so is the last 6
+refused 7 3 "${fix}PB1234.5\n"
+
+# 18: a total above 0 with nothing to cut it by, where the block closes
+for value in '' 0 0,0 0,0,0,0 0.0 .0000,-0,+0. ,, ,0; do
+    for total in 1 .0001 100; do refused 18 9 "$(storm "$total" "$value")"; done
+done
+flows '0 0 0 60000000' "$(storm 1 0,0,0,.0001)"     # the least pattern is one
+dry='BA 1\nPB 1\nPI 0\nLU\nUI 1\n'                  # 5 lines
+wet=${dry/PI 0/PI 1}
+refused 18 9 "${free}KK A\n${dry}KK B\nXX\n"
+refused 18 10 "${free}KK A\nPI\nUI 1\nPI 0\nBA 1\nPB .0001\nLU\nKK B\n"
+full "REFUSED 18 9\n0 0 0 0 0\n$(zeros 33)\n0\n" "${free}KK A\n${dry}ZZ\n" --ordinates 5 --records 33
+full "REFUSED 18 9\n\n\n0\n" "${free}KK A\n${dry}ZZ\n" --ordinates 0 --records 0 --named 9
+full "REFUSED 1 0\n0\n00\n0\n" "${free}KK A\n${dry}ZZ\n" --ordinates 1 --records 1 --work 5999
+full "REFUSED 17 0\n0 0 0\n$(zeros 32)\n0\n" "${free}KK A\n${wet}ZZ\n" --ordinates 3 --records 32
+for line in BA LU UI; do                            # 9 before 18
+    text=${dry/"$line"/KM}
+    refused 9 9 "${free}KK A\n${text}ZZ\n"
+    refused 9 49 "$free${twenty}KK A\n${text}ZZ\n"
+done
+for line in 'QI 1' 'HC 2' 'RM 1,1,.2'; do
+    refused 9 10 "${free}KK A\n$dry$line\nZZ\n"
+    refused 9 6 "${free}KK A\nPB 1\n$line\nZZ\n"    # a total beside another kind's record
+    refused 9 6 "${free}KK A\nPB 0\n$line\nZZ\n"
+done
+refused 9 7 "${free}KK A\nBA 1\nQI 1\nPB 1\nZZ\n"
+refused 9 8 "${free}KK A\n${dry/PI 0'\n'/}ZZ\n"     # no PI at all is 9, not 18
+refused 18 49 "$free${twenty}KK B\n${dry}ZZ\n"      # 18 before 11
+refused 11 49 "$free${twenty}KK B\n${wet}ZZ\n"
+refused 18 9 "${free}KK A\n${dry}KK B\nHC 2\nZZ\n"  # the earlier line, before 10
+refused 10 5 "${free}KK Z\nHC 2\nKK A\n${dry}ZZ\n"
+refused 18 13 "${two}KK C\n${dry}ZZ\n"              # 18 before 15
+refused 15 13 "${two}KK C\n${wet}ZZ\n"
+many="$free$inflow$(times 198 'KK R\nRM 1,1,.2\n')KK D\n"   # 401 lines, 200 blocks
+refused 18 407 "$many${dry}KK S\n"                  # 18 before 14
+refused 14 407 "$many${wet}KK S\n"
+refused 6 9 "${free}KK A\n${dry}KK ,\n"             # the line's own come first
+refused 3 9 "${free}KK A\n${dry}ZZ\x80\n"
+refused 4 9 "${free}KK A\n${dry}ZK\n"
+refused 16 0 "${free}KK A\n$dry"                    # nothing closes the block
+
+# 13: a hundred inches in one interval are 60,000,000 units
+flows '6000000000000 0 0 0' "$(storm 100 1 4 '' 1000)"
+refused 13 9 "$(storm 100 1 4 '' 1000.01)"
+flows '5999994000000 0 0 0' "$(storm 99.9999 1 4 '' 1000)"
+flows '6000000000000 6000000000000 0 0' "$(storm 100 1,1 4 '' 2000)"
+refused 13 9 "$(storm 100 1,1 4 '' 2000,.01)"
+flows '0 0 0 6000000000000' "$(storm 100 ,,,20 4 '' 1000,99999.99)"
+refused 13 9 "$(storm 100 ,,20 4 '' 1000,99999.99)"
+refused 13 38 "*FREE\nIT 60,,,300\nKK A\nBA 1\nPB 100\nPI 20\nLU\n${ui_top//x/99999.99}ZZ\n"
+refused 13 67 "*FREE\nIT 60,,,300\nKK A\nBA 1\nLU\nPB 100\n$(list PI 20)${ui_top//x/99999.99}ZZ\n"
+
+# Any pattern, cut in another way: share by share, with what a division leaves
+# carried on to the next.  'shares' has two lines a storm: NQ and the total in
+# ten-thousandths, then the ordinates.  All numbers stay below 2^53, and the
+# remainder is taken off before a division, so awk is exact.
+storms=300
+awk -v n="$storms" -v scratch="$scratch" '
+    function chance(below) {
+        seed = seed * 16807 % 2147483647
+        return seed % below
+    }
+    function inches(v) { return sprintf("%d.%04d", (v - v % 10000) / 10000, v % 10000) }
+    function one(k,    nq, count, i, top, kind, sum, total, rest, x, line, deck, shares) {
+        nq = chance(3) ? 1 + chance(24) : k % 10 ? 1 + chance(300) : 300
+        count = chance(4) ? 1 + chance(nq) : nq
+        top = 10 ^ chance(6)
+        if (top == 100000) top = 200000
+        kind = chance(5)
+        sum = 0
+        for (i = 1; i <= count; i++) {
+            p[i] = kind == 0 ? top : kind == 1 && chance(3) ? 0 : chance(top + 1)
+            sum += p[i]
+        }
+        if (sum == 0) p[1 + chance(count)] = sum = 1
+        kind = chance(6)
+        total = kind == 0 ? 1 : kind == 1 ? 1000000 : kind == 2 ? 999983 : kind == 3 ? chance(100) : chance(1000001)
+        deck = scratch "/storm." k
+        printf "*FREE\nIT 60,,,%d\nKK A\nBA 1\nPB %s\n", nq, inches(total) >deck
+        rest = 0
+        shares = ""
+        for (i = 1; i <= nq; i++) {
+            x = 0
+            if (i <= count) {
+                x = rest + 60 * total * p[i]
+                rest = x % sum
+                x = (x - rest) / sum
+                line = line (i % 9 == 1 ? "PI " : ",") inches(p[i])
+                if (i % 9 == 0 || i == count) {
+                    print line >deck
+                    line = ""
+                }
+            }
+            shares = shares (i > 1 ? " " : "") sprintf("%.0f", 100 * x)
+        }
+        print "LU\nUI 1\nZZ" >deck
+        close(deck)
+        print nq, total
+        print shares
+    }
+    BEGIN {
+        seed = 20240301
+        for (k = 1; k <= n; k++) one(k)
+    }' >"$scratch/shares"
+for ((k = 1; k <= storms; k++)); do
+    read -r nq total && read -r text || break
+    got=$("$prog" --full --ordinates "$nq" <"$scratch/storm.$k" | sed -n 2p)
+    check "storm $k" "$text" "$got"
+    # what falls adds up to the total, to the last unit
+    sum=0
+    for value in $got; do sum=$((sum + value)); done
+    check "storm $k, added up" $((6000 * total)) "$sum"
+done <"$scratch/shares"
+check 'as many storms as were asked for' $((storms + 1)) "$k"
+
+# the worked example: its listing, and the column of units in its table, which
+# is the rain of both basins
+example=$here/../examples/ten-year-storm
+check 'the ten-year storm' "$(cat "$example/storm.listing")" "$("$prog" <"$example/storm.hc1")"
+text=$(awk -F ' *[|] *' '$2 ~ /^[0-9]+$/ { gsub(/,/, "", $6); printf "%s ", $6 }' "$example/README.md")$(times 11 '0 ')0
+for k in 1 3; do
+    got=$(sed -e 's/^LU.*/LU/' -e 's/^UI.*/UI 0.01/' "$example/storm.hc1" |
+        "$prog" --full --ordinates 36 --named "$k" | sed -n 2p)
+    check "the ten-year storm, rain of block $k" "$text" "$got"
+done
 
 # ---- Bundles and cases ---------------------------------------------------
 

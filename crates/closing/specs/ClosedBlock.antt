@@ -1,36 +1,32 @@
 -- A block closed: the answer, and what is held then.
 --     answerBy            the answer, told by the refusal
 --     Closes              the outcome: the answer and the words; and of what is held then, Keeps
---     closes-by-shape     how it comes about: refused by 9 to 12,
+--     closes-by-shape     how it comes about: refused by its shape,
 --     closes-by-flow, closes-held     or made and held, and then refused by 13 or not
-use Prim.Native.Nat.{ℕ, zero, suc, _+_, _-_, _*_, _≤_, _<_}
+use Prim.Native.Nat.{ℕ, zero, suc, _+_, _-_, _≤_, _<_}
 use mathlib.Core.Path.{_≡_, refl, sym, ap, subst, _∙_}
 use mathlib.Core.List.{List}
 use native.Mathlib.Omega.{arith}
 use borrow.Author.Tests.{lt-ltb, le-ltb}
 use lib.ListN.{length, length-drop}
-use Rattle.sequences.specs.Bounds.{AllUpTo}
-use Rattle.sequences.specs.Parts.{part}
 use Rattle.meaning.specs.Water.{flowLimit}
-use Rattle.meaning.specs.Records.{table, mostOrdinates}
-use Rattle.meaning.specs.Blocks.{Time, Block, Kind, kindNumber, kindOf, takes, Held, total, unitOrdinates}
+use Rattle.meaning.specs.Blocks.{Time, Block, Kind, kindNumber, kindOf, takes, Held, total}
 use Rattle.meaning.specs.Results.{peakOf}
 use Rattle.meaning.specs.Run.{heldFor, heldAfter, shapeRefusal, flowRefusal, closingRefusal}
-use Rattle.limits.specs.Within.{TimeWithin}
 use Rattle.stack.specs.declared.Stack.{Stack}
 use Rattle.stack.specs.View.{view, length-held}
 use Rattle.stack.specs.Limits.{Within}
 use Rattle.summary.specs.declared.Summary.{Summary}
-use Rattle.summary.specs.Summary.{summaryOf}
+use Rattle.summary.specs.Summary.{summaryOf, noSummary}
 use Rattle.shaping.specs.Limits.{CardsWithin}
 use Rattle.shaping.specs.Shapes.{takes-by, shaped-passes}
 use Rattle.making.specs.Made.{stackBy, wordsBy, Makes}
 use Rattle.telling.specs.declared.Closed.{Closed}
 use Rattle.telling.specs.LastHeld.{Last, view-last}
-use Rattle.closing.specs.Sizes.{area-after, flow-within, within-after}
+use Rattle.closing.specs.Sizes.{area-after, within-after}
 
 abbrev pub refusedBlock : ℕ → Stack → Closed
-refusedBlock n s = record { refusal = n; held = s; kind = 0; area = 0; summary = record { peak = 0; interval = 0; sum = 0 } }
+refusedBlock n s = record { refusal = n; held = s; kind = 0; area = 0; summary = noSummary }
 
 abbrev pub closedBlock : Kind → Block → Stack → Held → Closed
 closedBlock k b s h = record { refusal = 0; held = stackBy k b s; kind = kindNumber k; area = h .area; summary = summaryOf (h .flow) }
@@ -118,11 +114,6 @@ module _ (τ : Time) (b : Block) (s : Stack) (w : List ℕ) where
         let room = shaped-passes {k = kindOf b} τ b (length before) (record { is = refl; sound = sound }) .room in
         omega
         (arith, room, takes-by b refl, length-held (τ .ordinates) (next .areas) (next .depth) w′, ap length (makes .held), length-drop (takes b) before)
-
-    pub made-within : CardsWithin b → length (b .cards) ≡ length table → length (unitOrdinates b) ≤ 150 → TimeWithin τ → Within before
-        → AllUpTo 18_000_000_000_000_000 (part (mostOrdinates * (next .depth - 1)) (τ .ordinates) w′)
-    made-within cards long few time flows =
-        subst (λ (q : List ℕ). AllUpTo 18_000_000_000_000_000 q) (sym (made-last .flow)) (flow-within τ b before cards sound long few time flows)
 
     pub closes-by-flow : {r : Closed} → flowLimit < peakOf (heldFor τ b before .flow) → r ≡ refusedBlock 13 s → Closes τ b s w r w′
     unfolding flowRefusal

@@ -9,11 +9,7 @@ ghost use Rattle.making.specs.Made.{HeldWithin};
 ghost use Rattle.closing.specs.ClosedBlock.{refusedBlock, Closes};
 use blocks::Time;
 use stack::Stack;
-use summary::Summary;
 use telling::Closed;
-
-// 100,000 cfs.
-const FLOW_LIMIT: u64 = 6_000_000_000_000;
 
 // A refusal answers what was held before, and tells nothing of the block.
 fn refuse(refusal: u64, held: Stack) -> Closed
@@ -24,11 +20,7 @@ fn refuse(refusal: u64, held: Stack) -> Closed
         held,
         kind: 0,
         area: 0,
-        summary: Summary {
-            peak: 0,
-            interval: 0,
-            sum: 0,
-        },
+        summary: summary::none(),
     }
 }
 
@@ -45,7 +37,7 @@ pub fn close_block(work: &mut [u64], held: Stack, time: Time, cards: &[u64]) -> 
     let kind = shape.kind;
     let next = making::make(work, held, time, cards, kind);
     let summary = telling::summarize_last(work, next, time.ordinates);
-    if FLOW_LIMIT < summary.peak {
+    if summary.interval == 0 {
         return refuse(13, held);
     }
     let area = telling::last_area(next);

@@ -13,9 +13,9 @@ use lib.Seq.{take-at, drop-at, drop-drop}
 use Rattle.meaning.specs.Lines.{lf, blank}
 use Rattle.meaning.specs.Fields.{trimEnd, isBlank}
 use Rattle.meaning.specs.Records.{anyBlank, mostOrdinates}
-use Rattle.meaning.specs.Water.{flowLimit}
+use Rattle.meaning.specs.Water.{flowLimit, sumOf}
 use Rattle.meaning.specs.Blocks.{Kind, NoKind, Basin, Inflow, Confluence, Reach, kindNumber, kindOf}
-use Rattle.meaning.specs.Results.{Result, peakOf, intervalOf, sumOf, littleEndian, blanksAfter, recordOf}
+use Rattle.meaning.specs.Results.{Result, peakOf, intervalOf, littleEndian, blanksAfter, recordOf}
 use Rattle.meaning.specs.Listing.{whole, twoPlaces, rounded, listed}
 use Rattle.sequences.specs.Parts.{part}
 use Rattle.summary.specs.Peaks.{interval-bound, sum-bound}

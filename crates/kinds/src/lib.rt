@@ -42,13 +42,14 @@ fn mask_of(cards: &[u64]) -> u64
     mask
 }
 
-// The kind of the block, from the records that are there: BA 1, PI 2, LU 4, UI 8, QI 16, HC 32, RM 64.
+// The kind of the block, from the records that are there: BA 1, PI 2, LU 4, UI 8, QI 16, HC 32, RM 64, PB 128.
 pub fn kind_of(cards: &[u64]) -> Kind
     requires { ⌜ Readable (now cards) ⌝ }
     ensures { λ r. ⌜ ((name : List ℕ) → kindMeant r ≡ kindOf (blockOf name (now (cards .entry)))) ⌝ }
 {
     match mask_of(cards) {
         15 => Kind::Basin,
+        143 => Kind::Basin,
         16 => Kind::Inflow,
         17 => Kind::Inflow,
         32 => Kind::Confluence,

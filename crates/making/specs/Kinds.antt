@@ -1,23 +1,42 @@
 -- What a block of each kind that was read and is not refused gives to the functions of water.
-use Prim.Native.Nat.{ℕ, _+_, _≤_}
+use Prim.Native.Nat.{ℕ, _+_, _*_, _≤_}
 use mathlib.Core.Path.{_≡_, refl, ap, _∙_}
+use mathlib.Core.Bool.{Bool, true, false}
 use native.Mathlib.Omega.{arith}
 use lib.ListN.{length}
 use Rattle.meaning.specs.Words.{if_then_else_}
-use Rattle.meaning.specs.Records.{PI, UI, HC, table}
-use Rattle.meaning.specs.Blocks.{Time, Block, Kind, Confluence, takesBy, combined, rainValues, unitOrdinates}
+use Rattle.meaning.specs.Records.{PI, UI, HC, PB, table}
+use Rattle.meaning.specs.Water.{tenThousandth}
+use Rattle.meaning.specs.Blocks.{Time, Block, Kind, Confluence, takesBy, combined, isGiven, cardOf, stormTotal, rainValues, unitOrdinates}
 use Rattle.limits.specs.Within.{TimeWithin}
 use Rattle.kinds.specs.Kinds.{kind-must}
 use Rattle.excess.specs.declared.Loss.{Loss}
 use Rattle.routing.specs.Soundness.{Reach}
-use Rattle.runoff.specs.Storm.{Storm}
+use Rattle.excess.specs.declared.Total.the-variants.{NotGiven, Given}
+use Rattle.excess.specs.Storms.{TotalWithin}
+use Rattle.runoff.specs.Storm.{StormWithin}
+use Rattle.units.specs.declared.Depth.{Depth}
 use Rattle.stack.specs.View.{Fits}
 use Rattle.stack.specs.Limits.{Added}
+use Rattle.stack.specs.Kinds.{blockStorm}
 use Rattle.shaping.specs.Limits.{CardsWithin}
 use Rattle.shaping.specs.Shapes.{Shaped, shaped-passes}
 
-pub storm-read : (τ : Time) (b : Block) → TimeWithin τ → CardsWithin b → length (unitOrdinates b) ≤ 150 → Storm (unitOrdinates b) (rainValues b) (τ .ordinates)
-storm-read τ b time cards few = record { few = few; unitsUp = cards UI .high; rainsUp = cards PI .high; intervalsUp = time .few-ordinates }
+total-up : (t : Bool) (total : Depth) → total .0 ≤ 60_000_000 → TotalWithin (if t then Given total else NotGiven)
+unfolding if_then_else_
+total-up true total up = up
+total-up false total up = tt
+
+pub storm-read : (τ : Time) (b : Block) → TimeWithin τ → CardsWithin b → length (unitOrdinates b) ≤ 150
+    → StormWithin (unitOrdinates b) (rainValues b) (blockStorm τ b) (τ .ordinates)
+storm-read τ b time cards few =
+    record {
+      few = few;
+      unitsUp = cards UI .high;
+      rainsUp = cards PI .high;
+      totalUp = total-up (isGiven (cardOf PB b)) (record { 0 = stormTotal b * tenThousandth }) (omega (arith, cards PB .high 0));
+      intervalsUp = time .few-ordinates;
+    }
 
 -- a block that takes none finds room for one more
 pub room-for-one : {k : Kind} (τ : Time) (b : Block) (d words : ℕ) → takesBy k b ≡ 0 → Shaped k τ b d → Fits d (τ .ordinates) words → Fits (d + 1) (τ .ordinates) words

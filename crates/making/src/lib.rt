@@ -1,4 +1,4 @@
-// The hydrograph of a block that 9 to 12 do not refuse, made in the work words and held: a function for each kind.
+// The hydrograph of a block that its shape does not refuse, made in the work words and held: a function for each kind.
 ghost use mathlib.Core.Path.{_≡_};
 ghost use mathlib.Core.List.{List, []};
 ghost use Prim.Native.Nat.{ℕ};
@@ -6,12 +6,14 @@ ghost use Rattle.meaning.specs.Blocks.{Basin, Inflow, Confluence, Reach, basinA
 ghost use Rattle.blocks.specs.Meant.{timeIs};
 ghost use Rattle.blocks.specs.Cards.{blockOf, Readable};
 ghost use Rattle.kinds.specs.Kinds.{kindMeant};
-ghost use Rattle.stack.specs.Kinds.{blockLoss};
+ghost use Rattle.stack.specs.Kinds.{blockLoss, blockTotal, blockStorm};
 ghost use Rattle.shaping.specs.Limits.{CardsWithin, Read};
 ghost use Rattle.shaping.specs.Shapes.{Shaped};
 ghost use Rattle.making.specs.Made.{HeldWithin, Makes};
 use blocks::Time;
 use excess::Loss;
+use excess::Storm;
+use excess::Total;
 use kinds::Kind;
 use stack::Stack;
 
@@ -33,6 +35,27 @@ fn loss_of(time: Time, cards: &[u64]) -> Loss
     Loss { initial, uniform }
 }
 
+// The total of its storm, where it is given one.
+fn total_of(cards: &[u64]) -> Total
+    requires { ⌜ Readable (now cards) × CardsWithin (blockOf [] (now cards)) ⌝ }
+    ensures { λ r. ⌜ ((name : List ℕ) → r ≡ blockTotal (blockOf name (now (cards .entry)))) ⌝ }
+{
+    if blocks::is_given(cards, records::PB) {
+        return Total::Given(units::depth_of(blocks::value_at(cards, records::PB, 0)));
+    }
+    Total::NotGiven
+}
+
+// What is made of the rain that it lists.
+fn storm_of(time: Time, cards: &[u64]) -> Storm
+    requires { ⌜ Read (timeIs time) (now cards) ⌝ }
+    ensures { λ r. ⌜ ((name : List ℕ) → r ≡ blockStorm (timeIs time) (blockOf name (now (cards .entry)))) ⌝ }
+{
+    let total = total_of(cards);
+    let loss = loss_of(time, cards);
+    Storm { total, loss }
+}
+
 // A basin: the runoff of its storm.
 fn make_basin(work: &mut [u64], held: Stack, time: Time, cards: &[u64]) -> Stack
     requires { ⌜ HeldWithin held (time .ordinates) (now work) ⌝ }
@@ -41,10 +64,10 @@ fn make_basin(work: &mut [u64], held: Stack, time: Time, cards: &[u64]) -> Stack
     ensures { λ r. ⌜ ((name : List ℕ) → Makes (timeIs time) (blockOf name (now (cards .entry))) held (now (work .entry)) r (now (work .exit))) ⌝ }
 {
     let area = area_of(cards);
-    let loss = loss_of(time, cards);
+    let storm = storm_of(time, cards);
     let units = blocks::values(cards, records::UI);
     let rains = blocks::values(cards, records::PI);
-    stack::hold_basin(work, held, time.ordinates, area, units, rains, loss)
+    stack::hold_basin(work, held, time.ordinates, area, units, rains, storm)
 }
 
 // An inflow: its flows as listed.

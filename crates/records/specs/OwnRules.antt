@@ -1,5 +1,6 @@
 -- The rules of the records' fields, as the code has them.
 use Prim.Native.Nat.{ℕ, zero, suc, _≤_, _<_, zero-le}
+use Prim.Native.String.{String}
 use mathlib.Core.Path.{_≡_, refl, sym}
 use mathlib.Core.Bool.{Bool, true, _&&_}
 use mathlib.Core.List.{List, [], _∷_}
@@ -12,7 +13,7 @@ use Rattle.meaning.specs.Words.{_≤?_}
 use Rattle.meaning.specs.Records as records
 use Rattle.meaning.specs.Records.{Row, Once, Listed, Item, rulesIn, ruleAt}
 use Rattle.rules.specs.Rules.{FewPlaces}
-use Rattle.records.specs.Rows.{rowAt, fieldRows, fieldRow, rulesBy, few-rules}
+use Rattle.records.specs.Rows.{items, rowAt, fieldRows, fieldRow, rulesBy, few-rules}
 
 -- the rule of a field, or of the values that are listed
 abbrev pub ownRule : Row → ℕ → records.Rule
@@ -34,18 +35,26 @@ within-ten item k h = by (fieldRow item)
     by (Once i fs) = refl
     by (Listed i m r) = sym (getD-replicate 10 k r records.Unnamed h)
 
--- a number that is none of 0, 1, .. up to n, as a match tells it
-abbrev pub Other : ℕ → ℕ → Type 0
-Other zero i = Unit
-Other (suc n) i = Other n i × (i ≡ n → ⊥)
+-- A number that is none of 0, 1, .. up to n, as a match tells it behind what it told before.
+abbrev pub Other : Type 0 → ℕ → ℕ → Type 0
+Other T zero i = T
+Other T (suc n) i = Other T n i × (i ≡ n → ⊥)
 
-other-past : (n i : ℕ) → Other n i → n ≤ i
-other-past zero i h = zero-le
-other-past (suc n) i h = let k = other-past n i (h .0) in omega (arith, h .1)
+other-past : (T : Type 0) (n i : ℕ) → Other T n i → T × (n ≤ i)
+other-past T zero i h = (h, zero-le)
+other-past T (suc n) i h = let k = other-past T n i (h .0) in (k .0, omega (arith, k .1, h .1))
 
--- past the table there is no record
-pub no-rule : (item k : ℕ) → Other (length fieldRows) item → records.Unnamed ≡ ownRule (fieldRow item) k
-no-rule item k h = rw (List·getD-eq-default fieldRows (Once "" []) (other-past (length fieldRows) item h))
+-- past its own fields a record that stands once has none
+pub past-fields : {row : Row} {identifier : String} {fields : List records.Rule} (k : ℕ) → row ≡ Once identifier fields → Other Unit (length fields) k
+    → records.Unnamed ≡ ownRule row k
+past-fields {fields = fields} k e h = rw e (past fields k (other-past Unit (length fields) k h .1))
+
+-- past the table there is no record: a number that is not the time control's, and none of the records'
+pub no-rule : (item k : ℕ) → Other (Unit × (item ≡ items → ⊥)) items item → records.Unnamed ≡ ownRule (fieldRow item) k
+no-rule item k h =
+    let other = other-past (Unit × (item ≡ items → ⊥)) items item h in
+    let far : length fieldRows ≤ item = omega (arith, other .1, other .0 .1) in
+    rw (List·getD-eq-default fieldRows (Once "" []) far)
 
 -- Every rule of the table has few places and characters: one test over the rows.
 abbrev fewIn : records.Rule → Bool

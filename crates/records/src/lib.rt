@@ -25,25 +25,36 @@ pub const HC: usize = 5;
 
 pub const RM: usize = 6;
 
-pub const RECORDS: usize = 7;
+pub const PB: usize = 7;
+
+pub const RECORDS: usize = 8;
 
 // The time control has fields too, and is no record of a block: its place is behind them.
-pub const IT: usize = 7;
+pub const IT: usize = RECORDS;
 
 // Where the regions begin, and behind the last the end: a head word, then room for the values.
-const STARTS: [u16; 8] = [0, 2, 303, 307, 458, 759, 761, 765];
+const STARTS: [u16; RECORDS + 1] = [0, 2, 303, 307, 458, 759, 761, 765, 767];
 
 // All of them.
-pub const WORDS: usize = 765;
+pub const WORDS: usize = 767;
 
 // How a record stands: 0 once, 1 a list of as many values as there is room for, 2 a list of at most NQ.
-const WAYS: [u8; 7] = [0, 2, 0, 1, 2, 0, 0];
+const WAYS: [u8; RECORDS] = [0, 2, 0, 1, 2, 0, 0, 0];
 
 // The identifiers' two bytes as numbers.
-const KEYS: [u16; 7] = [0x4241, 0x5049, 0x4C55, 0x5549, 0x5149, 0x4843, 0x524D];
+const KEYS: [u16; RECORDS] = [
+    0x4241,
+    0x5049,
+    0x4C55,
+    0x5549,
+    0x5149,
+    0x4843,
+    0x524D,
+    0x5042,
+];
 
 // How many fields have a value whether they are written or not: none where values are listed.
-const NAMED: [u16; 8] = [1, 0, 3, 0, 0, 1, 3, 4];
+const NAMED: [u16; RECORDS + 1] = [1, 0, 3, 0, 0, 1, 3, 1, 4];
 
 fn wide(x: u16) -> u64
     ensures { λ r. ⌜ r ≡ x ⌝ }
@@ -114,38 +125,43 @@ pub fn place_of(key: u64) -> usize
 }
 
 // The rule of field `k` of a record, from 0, or of the values that it lists. A match and no table, since it is asked for every field.
+// The time control comes first, so that a further record's arm is put behind all others and moves none of them, here and in the proof.
 fn own_rule(item: usize, k: usize) -> Rule
     ensures { λ r. ⌜ ruleBy r ≡ ownRule (fieldRow item) k ⌝ }
 {
     match item {
-        0 => match k {
+        IT => match k {
+            0 => Rule::Limited(0, 1, 1440),
+            1 => Rule::NotRead,
+            2 => Rule::NotRead,
+            3 => Rule::Limited(0, 1, 300),
+            _ => Rule::Unnamed,
+        },
+        BA => match k {
             0 => Rule::Limited(2, 1, 999999),
             _ => Rule::Unnamed,
         },
-        1 => Rule::Limited(4, 0, 200000),
-        2 => match k {
+        PI => Rule::Limited(4, 0, 200000),
+        LU => match k {
             0 => Rule::Limited(4, 0, 200000),
             1 => Rule::Limited(4, 0, 200000),
             2 => Rule::Limited(2, 0, 0),
             _ => Rule::Unnamed,
         },
-        3 => Rule::Limited(2, 0, 9999999),
-        4 => Rule::Limited(2, 0, 10000000),
-        5 => match k {
+        UI => Rule::Limited(2, 0, 9999999),
+        QI => Rule::Limited(2, 0, 10000000),
+        HC => match k {
             0 => Rule::Limited(0, 2, 5),
             _ => Rule::Unnamed,
         },
-        6 => match k {
+        RM => match k {
             0 => Rule::Limited(0, 1, 50),
             1 => Rule::Limited(2, 1, 2400),
             2 => Rule::Limited(2, 0, 50),
             _ => Rule::Unnamed,
         },
-        7 => match k {
-            0 => Rule::Limited(0, 1, 1440),
-            1 => Rule::NotRead,
-            2 => Rule::NotRead,
-            3 => Rule::Limited(0, 1, 300),
+        PB => match k {
+            0 => Rule::Limited(4, 0, 1000000),
             _ => Rule::Unnamed,
         },
         _ => Rule::Unnamed,

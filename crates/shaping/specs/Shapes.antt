@@ -1,6 +1,6 @@
--- Refusals 9 to 12 of a block that closes.
---     refusalBy       by the numbers that they look at
---     ShapeIs         the shape of a block, with shape-refused and shape-sound: how it comes about
+-- Refusals 9, 18 and 10 to 12 of a block that closes.
+--     refusalBy       by the tests and the numbers that they look at
+--     ShapeIs         the shape of a block, with shape-found, shape-refused and shape-sound: how it comes about
 --     Shaped          a block of a kind that none of them refuses, with what that says of how many are held, and of a reach
 use Prim.Native.Nat.{ℕ, zero, suc, _+_, _-_, _≤_, _<_}
 use mathlib.Core.Path.{_≡_, refl, sym, ap, _∙_}
@@ -13,7 +13,7 @@ use Rattle.meaning.specs.Words.{_=?_, _≤?_, _<?_, if_then_else_, met, first}
 use Rattle.meaning.specs.Water.{coefA, coefB, coefC}
 use Rattle.meaning.specs.Records.{RM, table}
 use Rattle.meaning.specs.Blocks as blocks
-use Rattle.meaning.specs.Blocks.{Time, Block, NoKind, Reach, kindNumber, kindOf, takesBy, takes, brokenBy, broken, reachSteps, reachK, reachX}
+use Rattle.meaning.specs.Blocks.{Time, Block, NoKind, Reach, kindNumber, kindOf, takesBy, takes, patternless, brokenBy, broken, reachSteps, reachK, reachX}
 use Rattle.meaning.specs.Run.{shapeRefusal, depthAfter}
 use Rattle.limits.specs.Within.{TimeWithin}
 use Rattle.kinds.specs.Kinds.{kindMeant, kind-must}
@@ -22,9 +22,9 @@ use Rattle.routing.specs.Soundness as routing
 use Rattle.shaping.specs.Limits.{CardsWithin, reach-small}
 use Rattle.shaping.specs.declared.Shape.{Shape}
 
-abbrev pub refusalBy : (number taken held : ℕ) → Bool → ℕ
-refusalBy number taken held isBroken =
-    first (met (number =? 0) 9) (first (met (held <? taken) 10) (first (met (20 ≤? (held - taken)) 11) (met isBroken 12)))
+abbrev pub refusalBy : (isKindless isPatternless : Bool) (taken held : ℕ) (isBroken : Bool) → ℕ
+refusalBy isKindless isPatternless taken held isBroken =
+    first (met isKindless 9) (first (met isPatternless 18) (first (met (held <? taken) 10) (first (met (20 ≤? (held - taken)) 11) (met isBroken 12))))
 
 -- by the kind alone
 pub takes-by : (b : Block) {k : blocks.Kind} → kindOf b ≡ k → takes b ≡ takesBy k b
@@ -35,7 +35,8 @@ pub broken-by : (τ : Time) (b : Block) {k : blocks.Kind} → kindOf b ≡ k →
 unfolding broken
 broken-by τ b e = rw e
 
-pub shape-by : (τ : Time) (b : Block) (held : ℕ) {k : blocks.Kind} → kindOf b ≡ k → shapeRefusal τ b held ≡ refusalBy (kindNumber k) (takesBy k b) held (brokenBy k τ b)
+shape-by : (τ : Time) (b : Block) (held : ℕ) {k : blocks.Kind} → kindOf b ≡ k
+    → shapeRefusal τ b held ≡ refusalBy (kindNumber k =? 0) (patternless τ b) (takesBy k b) held (brokenBy k τ b)
 unfolding shapeRefusal
 shape-by τ b held e = rw (takes-by b e, broken-by τ b e, e)
 
@@ -54,6 +55,12 @@ kept-after zero b held some = absurd (some refl)
 kept-after (suc n) b held some = refl
 
 module _ (τ : Time) (b : Block) (held : ℕ) (kind : Kind) (e : kindMeant kind ≡ kindOf b) where
+  -- from what was found of the block
+  pub shape-found : (isKindless isPatternless : Bool) (taken : ℕ) (isBroken : Bool) → isKindless ≡ (kindNumber (kindMeant kind) =? 0)
+      → isPatternless ≡ patternless τ b → taken ≡ takesBy (kindMeant kind) b → isBroken ≡ brokenBy (kindMeant kind) τ b
+      → refusalBy isKindless isPatternless taken held isBroken ≡ shapeRefusal τ b held
+  shape-found isKindless isPatternless taken isBroken n p t w = rw (n, p, t, w) (sym (shape-by τ b held (sym e)))
+
   pub shape-refused : (n after : ℕ) → n ≡ shapeRefusal τ b held → (n ≡ 0 → ⊥) → after ≡ held → ShapeIs τ b held (record { refusal = n; kind = kind; after = after })
   shape-refused n after h some a = record { number = h; kind = e; after = a ∙ kept-after n b held some }
 
@@ -67,14 +74,16 @@ pub record Passes (taken held : ℕ) (isBroken : Bool) : Type 0 where
   pub room : held - taken < 20
   pub whole : isBroken ≡ false
 
-pub passes : (number taken held : ℕ) (isBroken : Bool) → refusalBy number taken held isBroken ≡ 0 → Passes taken held isBroken
-passes number taken held isBroken e =
-    let f = neither-met (met (held <? taken) 10) _ (neither-met (met (number =? 0) 9) _ e .1) in
-    let g = neither-met (met (20 ≤? (held - taken)) 11) _ (f .1) in
+pub passes : (isKindless isPatternless : Bool) (taken held : ℕ) (isBroken : Bool) → refusalBy isKindless isPatternless taken held isBroken ≡ 0
+    → Passes taken held isBroken
+passes isKindless isPatternless taken held isBroken e =
+    let f = neither-met (met isPatternless 18) _ (neither-met (met isKindless 9) _ e .1) in
+    let g = neither-met (met (held <? taken) 10) _ (f .1) in
+    let h = neither-met (met (20 ≤? (held - taken)) 11) _ (g .1) in
     record {
-      enough = ltb-false held taken (not-met (held <? taken) 9 (f .0));
-      room = leb-false 20 (held - taken) (not-met (20 ≤? (held - taken)) 10 (g .0));
-      whole = not-met isBroken 11 (g .1);
+      enough = ltb-false held taken (not-met (held <? taken) 9 (g .0));
+      room = leb-false 20 (held - taken) (not-met (20 ≤? (held - taken)) 10 (h .0));
+      whole = not-met isBroken 11 (h .1);
     }
 
 pub record Shaped (k : blocks.Kind) (τ : Time) (b : Block) (held : ℕ) : Type 0 where
@@ -83,7 +92,7 @@ pub record Shaped (k : blocks.Kind) (τ : Time) (b : Block) (held : ℕ) : Type 
 
 module _ {k : blocks.Kind} (τ : Time) (b : Block) (held : ℕ) (s : Shaped k τ b held) where
   pub shaped-passes : Passes (takesBy k b) held (brokenBy k τ b)
-  shaped-passes = passes (kindNumber k) (takesBy k b) held (brokenBy k τ b) (sym (shape-by τ b held (s .is)) ∙ s .sound)
+  shaped-passes = passes (kindNumber k =? 0) (patternless τ b) (takesBy k b) held (brokenBy k τ b) (sym (shape-by τ b held (s .is)) ∙ s .sound)
 
 -- a block without a kind is refused
 pub none-refused : (τ : Time) (b : Block) (held : ℕ) → Shaped NoKind τ b held → ⊥

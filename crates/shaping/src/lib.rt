@@ -1,8 +1,10 @@
-// What the lines alone decide of a block that closes, before any flow is looked at: its kind, the refusals 9 to 12, and how many are held after it.
+// What the lines alone decide of a block that closes, before any flow is looked at: its kind, the refusals 9, 18 and 10 to 12, and how many are
+// held after it.
 ghost use mathlib.Core.Path.{_≡_};
 ghost use mathlib.Core.List.{List};
 ghost use Prim.Native.Nat.{ℕ};
-ghost use Rattle.meaning.specs.Blocks.{Reach, kindNumber, takesBy, brokenBy, reachSteps, reachK, reachX};
+ghost use Rattle.meaning.specs.Words.{_=?_};
+ghost use Rattle.meaning.specs.Blocks.{Reach, kindNumber, takesBy, patternless, brokenBy, reachSteps, reachK, reachX};
 ghost use Rattle.blocks.specs.Meant.{timeIs};
 ghost use Rattle.blocks.specs.Cards.{blockOf, Readable};
 ghost use Rattle.kinds.specs.Kinds.{kindMeant};
@@ -13,7 +15,7 @@ use kinds::Kind;
 
 const MOST_HELD: usize = 20;
 
-// The refusal by 9 to 12, 0 for none; the kind; and how many are held then, as many as before where the block is refused.
+// The refusal by 9 to 12 or by 18, 0 for none; the kind; and how many are held then, as many as before where the block is refused.
 pub struct Shape {
     pub refusal: u64,
     pub kind: Kind,
@@ -30,6 +32,13 @@ pub fn number_of(kind: Kind) -> u8
         Kind::Confluence => 3,
         Kind::Reach => 4,
     }
+}
+
+// Whether the block has no kind.
+fn is_kindless(kind: Kind) -> bool
+    ensures { λ r. ⌜ r ≡ (kindNumber (kindMeant kind) =? 0) ⌝ }
+{
+    number_of(kind) == 0
 }
 
 // How many of those held last a block of the kind takes.
@@ -86,12 +95,26 @@ fn is_broken(kind: Kind, time: Time, cards: &[u64]) -> bool
     }
 }
 
-// The refusals in their order: no kind (9), too few held (10), no room for one more (11), values that do not go together (12).
-fn refusal_by(number: u8, taken: usize, held: usize, broken: bool) -> u64
-    ensures { λ r. ⌜ r ≡ refusalBy number taken held broken ⌝ }
+// Whether a block has a storm's total and no pattern to spread it by. The pattern is looked at only where there is something to spread.
+fn is_patternless(time: Time, cards: &[u64]) -> bool
+    requires { ⌜ Readable (now cards) ⌝ }
+    ensures { λ r. ⌜ ((name : List ℕ) → r ≡ patternless (timeIs time) (blockOf name (now (cards .entry)))) ⌝ }
 {
-    if number == 0 {
+    if blocks::value_at(cards, records::PB, 0) == 0 {
+        return false;
+    }
+    storms::is_dry(blocks::values(cards, records::PI), time.ordinates)
+}
+
+// The refusals in their order: no kind (9), a total without a pattern (18), too few held (10), no room for one more (11), values that do not go together (12).
+fn refusal_by(kindless: bool, patternless: bool, taken: usize, held: usize, broken: bool) -> u64
+    ensures { λ r. ⌜ r ≡ refusalBy kindless patternless taken held broken ⌝ }
+{
+    if kindless {
         return 9;
+    }
+    if patternless {
+        return 18;
     }
     if held < taken {
         return 10;
@@ -111,9 +134,11 @@ pub fn shape_of(time: Time, cards: &[u64], held: usize) -> Shape
     ensures { λ r. ⌜ ((name : List ℕ) → ShapeIs (timeIs time) (blockOf name (now (cards .entry))) held r) ⌝ }
 {
     let kind = kinds::kind_of(cards);
+    let kindless = is_kindless(kind);
     let taken = taken_by(kind, cards);
     let broken = is_broken(kind, time, cards);
-    let refusal = refusal_by(number_of(kind), taken, held, broken);
+    let patternless = is_patternless(time, cards);
+    let refusal = refusal_by(kindless, patternless, taken, held, broken);
     if refusal != 0 {
         return Shape {
             refusal,

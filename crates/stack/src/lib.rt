@@ -10,11 +10,11 @@ ghost use Rattle.meaning.specs.Water.{inflowOf, plus, routedOf};
 ghost use Rattle.meaning.specs.Blocks.{total};
 ghost use Rattle.meaning.specs.Records.{mostOrdinates};
 ghost use Rattle.routing.specs.Soundness.{Reach};
-ghost use Rattle.runoff.specs.Storm.{Storm, stormRunoff};
+ghost use Rattle.runoff.specs.Storm.{StormWithin, stormRunoff};
 ghost use Rattle.stack.specs.View.{Fits, view, noneHeld, pushed, heldOf, routedHeld};
 ghost use Rattle.stack.specs.Joining.{joinedPair, joinedWords, joinedStack, joinedAllWords};
 ghost use Rattle.stack.specs.Limits.{Tops, Within, Added};
-use excess::Loss;
+use excess::Storm;
 
 // The words of a place: the most ordinates that a hydrograph has.
 pub const PLACE: usize = 300;
@@ -58,16 +58,16 @@ pub fn hold_basin(
     area: u32,
     units: &[u64],
     rains: &[u64],
-    loss: Loss,
+    storm: Storm,
 ) -> Stack
     requires { ⌜ Fits (stack .depth + 1) nq (length (now work)) ⌝ }
-    requires { ⌜ Storm (now units) (now rains) nq ⌝ }
+    requires { ⌜ StormWithin (now units) (now rains) storm nq ⌝ }
     ensures { λ r. ⌜ r ≡ pushed area stack ⌝ }
-    ensures words { λ _. ⌜ now (work .exit) ≡ put (mostOrdinates * stack .depth) nq (now (work .entry)) (stormRunoff (now (units .entry)) (now (rains .entry)) loss nq) ⌝ }
-    ensures held { λ r. ⌜ view r nq (now (work .exit)) ≡ heldOf area (stormRunoff (now (units .entry)) (now (rains .entry)) loss nq) ∷ view stack nq (now (work .entry)) ⌝ }
+    ensures words { λ _. ⌜ now (work .exit) ≡ put (mostOrdinates * stack .depth) nq (now (work .entry)) (stormRunoff (now (units .entry)) (now (rains .entry)) storm nq) ⌝ }
+    ensures held { λ r. ⌜ view r nq (now (work .exit)) ≡ heldOf area (stormRunoff (now (units .entry)) (now (rains .entry)) storm nq) ∷ view stack nq (now (work .entry)) ⌝ }
 {
     let p = PLACE * stack.depth;
-    runoff::runoff_into(&mut work[p..p + nq], units, rains, loss);
+    runoff::runoff_into(&mut work[p..p + nq], units, rains, storm);
     push(stack, area)
 }
 

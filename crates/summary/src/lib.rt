@@ -1,21 +1,34 @@
-// The summary of a hydrograph: its peak, the first interval of the peak, and the sum of its ordinates.
+// The summary of a hydrograph: its peak, the first interval of the peak, and the sum of its ordinates. Above the limit of a flow there is none.
 ghost use mathlib.Core.Path.{_≡_};
 ghost use Prim.Native.Nat.{_≤_};
 ghost use lib.ListN.{length};
 ghost use Rattle.meaning.specs.Records.{mostOrdinates};
-ghost use Rattle.sequences.specs.Bounds.{AllUpTo};
-ghost use Rattle.summary.specs.Summary.{summaryOf};
+ghost use Rattle.summary.specs.Summary.{noSummary, summaryWithin};
 
+// 100,000 cfs.
+const FLOW_LIMIT: u64 = 6_000_000_000_000;
+
+// An interval of 0 is that of no hydrograph.
 pub struct Summary {
     pub peak: u64,
     pub interval: u64,
     pub sum: u64,
 }
 
-// The peak, its first interval from 1, and the sum. The bound is the highest runoff before the limit is tested.
+pub fn none() -> Summary
+    ensures { λ r. ⌜ r ≡ noSummary ⌝ }
+{
+    Summary {
+        peak: 0,
+        interval: 0,
+        sum: 0,
+    }
+}
+
+// The peak, its first interval from 1, and the sum. Nothing above the limit is ever added: ordinates that high need not add up in a word.
 pub fn summarize(q: &[u64]) -> Summary
-    requires { ⌜ (length (now q) ≤ mostOrdinates) × AllUpTo 18_000_000_000_000_000 (now q) ⌝ }
-    ensures { λ r. ⌜ r ≡ summaryOf (now (q .entry)) ⌝ }
+    requires { ⌜ length (now q) ≤ mostOrdinates ⌝ }
+    ensures { λ r. ⌜ r ≡ summaryWithin (now (q .entry)) ⌝ }
 {
     let mut peak = 0;
     let mut first = 0;
@@ -23,11 +36,14 @@ pub fn summarize(q: &[u64]) -> Summary
     let mut i = 0;
     while i < q.len() {
         let x = q[i];
-        sum += x;
         if peak < x {
+            if FLOW_LIMIT < x {
+                return none();
+            }
             peak = x;
             first = i;
         }
+        sum += x;
         i += 1;
     }
     Summary {

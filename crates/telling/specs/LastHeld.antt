@@ -4,7 +4,6 @@ use mathlib.Core.Path.{_≡_, ap, _∙_}
 use mathlib.Core.List.{List, _∷_}
 use native.Mathlib.Omega.{arith}
 use lib.ListN.{length, getD}
-use Rattle.sequences.specs.Bounds.{AllUpTo}
 use Rattle.sequences.specs.Parts.{part, length-part}
 use Rattle.meaning.specs.Blocks.{Held}
 use Rattle.meaning.specs.Records.{mostOrdinates}
@@ -38,6 +37,5 @@ module _ (s : Stack) (nq : ℕ) (w : List ℕ) where
     pub length-last : length (part (mostOrdinates * (s .depth - 1)) nq w) ≡ nq
     length-last = length-part (mostOrdinates * (s .depth - 1)) nq w (omega (arith, f .0, f .1 .deep, f .1 .ordinates, f .1 .enough))
 
-    pub lent-up : (most p : ℕ) → AllUpTo most (part (mostOrdinates * (s .depth - 1)) nq w) → p ≡ mostOrdinates * (s .depth - 1)
-        → (length (part p (p + nq - p) w) ≤ mostOrdinates) × AllUpTo most (part p (p + nq - p) w)
-    lent-up most p up place = rw (lent-last p place) (omega (arith, length-last, f .1 .ordinates), up)
+    pub lent-few : (p : ℕ) → p ≡ mostOrdinates * (s .depth - 1) → length (part p (p + nq - p) w) ≤ mostOrdinates
+    lent-few p place = rw (lent-last p place) (omega (arith, length-last, f .1 .ordinates))

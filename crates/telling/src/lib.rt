@@ -2,15 +2,14 @@
 ghost use mathlib.Core.Path.{_≡_};
 ghost use Prim.Native.Nat.{_-_, _*_, _≤_};
 ghost use lib.ListN.{length, getD};
-ghost use Rattle.sequences.specs.Bounds.{AllUpTo};
 ghost use Rattle.sequences.specs.Parts.{part};
 ghost use Rattle.meaning.specs.Records.{mostOrdinates};
 ghost use Rattle.stack.specs.View.{Fits};
-ghost use Rattle.summary.specs.Summary.{summaryOf};
+ghost use Rattle.summary.specs.Summary.{summaryWithin};
 use stack::Stack;
 use summary::Summary;
 
-// A block closed: the refusal by 9 to 13, 0 for none; then the number of its kind, its area and the summary of its hydrograph, which is the last held.
+// A block closed: the refusal by 9 to 13 or 18, 0 for none; then the number of its kind, its area and the summary of its hydrograph, which is the last held.
 pub struct Closed {
     pub refusal: u64,
     pub held: Stack,
@@ -36,11 +35,10 @@ pub fn last_area(held: Stack) -> u32
     held.areas[last]
 }
 
-// The summary of the hydrograph held last.
+// The summary of the hydrograph held last, none where it passes the limit of a flow.
 pub fn summarize_last(work: &[u64], held: Stack, nq: usize) -> Summary
     requires { ⌜ (1 ≤ held .depth) × Fits (held .depth) nq (length (now work)) ⌝ }
-    requires { ⌜ AllUpTo 18_000_000_000_000_000 (part (mostOrdinates * (held .depth - 1)) nq (now work)) ⌝ }
-    ensures { λ r. ⌜ r ≡ summaryOf (part (mostOrdinates * (held .depth - 1)) nq (now (work .entry))) ⌝ }
+    ensures { λ r. ⌜ r ≡ summaryWithin (part (mostOrdinates * (held .depth - 1)) nq (now (work .entry))) ⌝ }
 {
     let p = last_place(held);
     summary::summarize(&work[p..p + nq])

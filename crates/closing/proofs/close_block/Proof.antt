@@ -1,23 +1,18 @@
 -- `closing::close_block` meets its contract: a block that its shape refuses is not made; one that is made is the last held, and each way out is a law of blocks closed.
-use Prim.Native.Nat.{ℕ, _≤_, _<_}
+use Prim.Native.Nat.{ℕ, _≤_}
 use mathlib.Core.Path.{_≡_, sym, ap, _∙_}
 use mathlib.Core.List.{List, []}
 use native.Mathlib.Omega.{arith}
 use borrow.Author.Needs.{needs}
 use lib.ListN.{length}
-use Rattle.meaning.specs.Water.{flowLimit}
-use Rattle.meaning.specs.Records.{UI}
 use Rattle.meaning.specs.Blocks.{Held, kindNumber}
-use Rattle.meaning.specs.Results.{peakOf}
 use Rattle.meaning.specs.Run.{heldFor, shapeRefusal}
 use Rattle.blocks.specs.Meant.{timeIs}
 use Rattle.blocks.specs.Cards.{blockOf}
-use Rattle.blocks.specs.Values.{block-long, values-few}
 use Rattle.stack.specs.View.{Fits, view}
-use Rattle.summary.specs.declared.Summary.{Summary}
-use Rattle.summary.specs.Summary.{summaryOf}
+use Rattle.summary.specs.Summary.{summaryWithin, over-told, within-told}
 use Rattle.telling.specs.LastHeld.{Last}
-use Rattle.closing.specs.ClosedBlock.{closes-by-shape, made-last, made-deep, made-within, closes-by-flow, closes-held}
+use Rattle.closing.specs.ClosedBlock.{closes-by-shape, made-last, made-deep, closes-by-flow, closes-held}
 use Rattle.closing.proofs.close_block.Statement.{statement}
 use Rattle.closing.proofs.close_block.Tie as tie
 
@@ -57,21 +52,14 @@ summarize-last-requires c κs =
     let q = c .before .before .before in
     let s = entry q in
     let x = s .args in
-    let b = blockOf [] (x .cards .now) in
-    let read = s .pre .1 in
-    let few = values-few UI [] (x .cards .now) (omega arith) (read .words .long) in
-    let up = made-within (timeIs (x .time)) b (x .held) (x .work .now) (unrefused q []) _ _ (q .make .ensures []) in
     let long : length (q .make .last .0) ≡ length (x .work .now) = q .make .kept .0 in
     let fits : Fits (q .make .result .depth) (x .time .ordinates) (length (q .make .last .0)) =
     record { deep = deep q; ordinates = s .pre .0 .fits .ordinates; enough = omega arith } in
-    ((omega (arith, last q [] .some), fits), up (read .cards) (block-long [] (x .cards .now)) few (read .time) (s .pre .0 .flows))
+    (omega (arith, last q [] .some), fits)
 
--- its summary is that of its own hydrograph, and so is its peak
-summed : (c : tie.After-summarize-last) (name : List ℕ) → c .summarize-last .result ≡ summaryOf (own (entry (c .before .before .before .before)) name .flow)
-summed c name = c .summarize-last .ensures ∙ ap summaryOf (last (c .before .before .before .before) name .flow)
-
-peak : (c : tie.After-summarize-last) (name : List ℕ) → c .summarize-last .result .peak ≡ peakOf (own (entry (c .before .before .before .before)) name .flow)
-peak c name = ap (λ (s : Summary). s .peak) (summed c name)
+-- its summary is that of its own hydrograph, as far as that is within the limit
+summed : (c : tie.After-summarize-last) (name : List ℕ) → c .summarize-last .result ≡ summaryWithin (own (entry (c .before .before .before .before)) name .flow)
+summed c name = c .summarize-last .ensures ∙ ap summaryWithin (last (c .before .before .before .before) name .flow)
 
 returns-2 : tie.Need-returns-2
 returns-2 c = λ name.
@@ -81,7 +69,7 @@ returns-2 c = λ name.
     let x = s .args in
     let τ = timeIs (x .time) in
     let b = blockOf name (x .cards .now) in
-    let high : flowLimit < peakOf (own s name .flow) = omega (arith, c .before .if2 .taken, peak q name) in
+    let high = over-told (own s name .flow) (summed q name) (omega (arith, c .before .if2 .taken)) in
     closes-by-flow τ b (x .held) (x .work .now) (unrefused m name) _ _ (m .make .ensures name) high (c .refuse2 .ensures)
 
 last-area-requires : tie.Need-last-area-requires
@@ -95,10 +83,10 @@ returns-3 c = λ name.
     let x = s .args in
     let τ = timeIs (x .time) in
     let b = blockOf name (x .cards .now) in
-    let low : peakOf (own s name .flow) ≤ flowLimit = omega (arith, c .before .before .if2 .left, peak q name) in
+    let told = within-told (own s name .flow) (summed q name) (λ z. omega (arith, c .before .before .if2 .left, z)) in
     let kind = c .number-of .ensures ∙ ap kindNumber (m .before .before .before .before .shape-of .ensures name .kind) in
     closes-held τ b (x .held) (x .work .now) (unrefused m name) _ _ (m .make .ensures name) (s .pre .1 .cards) (s .pre .0 .flows) kind
-    (c .before .last-area .ensures ∙ last m name .area) (summed q name) low
+    (c .before .last-area .ensures ∙ last m name .area) (told .1) (told .0)
 
 pub close-block-spec : {M : Type 1} → statement M
 close-block-spec =

@@ -23,7 +23,7 @@ hold-basin-requires c κs =
     let read = s .pre .1 .0 in
     let b = blockOf [] (x .cards .now) in
     let storm = storm-read (timeIs (x .time)) b (read .time) (read .cards) (values-few UI [] (x .cards .now) (omega arith) (read .words .long)) in
-    (room-for-one {k = Basin} (timeIs (x .time)) b _ _ refl (s .pre .1 .1 []) (s .pre .0 .fits), rw (c .before .before .values .ensures [], c .before .values2 .ensures []) storm)
+    (room-for-one {k = Basin} (timeIs (x .time)) b _ _ refl (s .pre .1 .1 []) (s .pre .0 .fits), rw (c .before .before .values .ensures [], c .before .values2 .ensures [], c .before .before .before .storm-of .ensures []) storm)
 
 returns : tie.Need-returns
 returns c = λ name.
@@ -34,8 +34,8 @@ returns c = λ name.
     let e = s .pre .1 .1 name .is in
     let h = c .before .before .hold-basin .ensures in
     let q = c .before .before .before .before in
-    let runoff : stormRunoff (q .before .values .result .now) (q .values2 .result .now) (q .before .before .loss-of .result) (x .time .ordinates) ≡ blockRunoff τ b =
-    rw (q .before .values .ensures name, q .values2 .ensures name, q .before .before .loss-of .ensures name) in
+    let runoff : stormRunoff (q .before .values .result .now) (q .values2 .result .now) (q .before .before .storm-of .result) (x .time .ordinates) ≡ blockRunoff τ b =
+    rw (q .before .values .ensures name, q .values2 .ensures name, q .before .before .storm-of .ensures name) in
     let area = q .before .before .before .area-of .ensures name in
     makes-by τ b (x .held) (x .work .now) e (h .0 ∙ rw area) (h .1 .0 ∙ rw runoff) (h .1 .1 ∙ rw (area, runoff) (sym (after-basin τ b (view (x .held) (x .time .ordinates) (x .work .now)) e)))
 

@@ -1,40 +1,38 @@
 -- `shaping::refusal_by` meets its contract: each answer is the first that its tests let through.
 use Prim.Native.Nat.{_-_, _≤_, _<_}
-use mathlib.Core.Path.{_≡_}
 use native.Mathlib.Omega.{arith}
-use borrow.Author.Tests.{eq-eqb, ne-eqb, lt-ltb, le-ltb, le-leb, lt-leb}
+use borrow.Author.Tests.{lt-ltb, le-ltb, le-leb, lt-leb}
 use Rattle.shaping.proofs.refusal_by.Statement.{statement}
 use Rattle.shaping.proofs.refusal_by.Tie as tie
-
-returns : tie.Need-returns
-returns c = let none : c .before .args .number ≡ 0 = omega (arith, c .if1 .taken) in rw (eq-eqb _ _ none)
-
-returns-2 : tie.Need-returns-2
-returns-2 c =
-    let x = c .before .before .args in
-    let few : x .held < x .taken = omega (arith, c .if2 .taken) in
-    rw (ne-eqb _ _ (c .before .if1 .left), lt-ltb _ _ few)
 
 returns-3 : tie.Need-returns-3
 returns-3 c =
     let x = c .before .before .before .args in
-    let full : 20 ≤ x .held - x .taken = omega (arith, c .if3 .taken) in
-    rw (ne-eqb _ _ (c .before .before .if1 .left), le-ltb _ _ (c .before .if2 .left), le-leb _ _ full)
+    let few : x .held < x .taken = omega (arith, c .if3 .taken) in
+    rw (c .before .before .if1 .left, c .before .if2 .left, lt-ltb _ _ few)
 
 returns-4 : tie.Need-returns-4
 returns-4 c =
     let x = c .before .before .before .before .args in
-    let room : x .held - x .taken < 20 = omega (arith, c .before .if3 .left) in
-    rw (ne-eqb _ _ (c .before .before .before .if1 .left), le-ltb _ _ (c .before .before .if2 .left), lt-leb _ _ room, c .if4 .taken)
+    let full : 20 ≤ x .held - x .taken = omega (arith, c .if4 .taken) in
+    rw (c .before .before .before .if1 .left, c .before .before .if2 .left, le-ltb _ _ (c .before .if3 .left), le-leb _ _ full)
 
 returns-5 : tie.Need-returns-5
 returns-5 c =
-    let x = c .before .before .before .before .args in
-    let room : x .held - x .taken < 20 = omega (arith, c .before .if3 .left) in
-    rw (ne-eqb _ _ (c .before .before .before .if1 .left), le-ltb _ _ (c .before .before .if2 .left), lt-leb _ _ room, c .if4 .left)
+    let x = c .before .before .before .before .before .args in
+    let room : x .held - x .taken < 20 = omega (arith, c .before .if4 .left) in
+    let enough = le-ltb _ _ (c .before .before .if3 .left) in
+    rw (c .before .before .before .before .if1 .left, c .before .before .before .if2 .left, enough, lt-leb _ _ room, c .if5 .taken)
+
+returns-6 : tie.Need-returns-6
+returns-6 c =
+    let x = c .before .before .before .before .before .args in
+    let room : x .held - x .taken < 20 = omega (arith, c .before .if4 .left) in
+    let enough = le-ltb _ _ (c .before .before .if3 .left) in
+    rw (c .before .before .before .before .if1 .left, c .before .before .before .if2 .left, enough, lt-leb _ _ room, c .if5 .left)
 
 pub refusal-by-spec : {M : Type 1} → statement M
 refusal-by-spec =
     tie.close
     (tie.spec
-    returns returns-2 returns-3 returns-4 returns-5)
+    (λ c. rw (c .if1 .taken)) (λ c. rw (c .before .if1 .left, c .if2 .taken)) returns-3 returns-4 returns-5 returns-6)

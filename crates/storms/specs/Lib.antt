@@ -1,0 +1,2 @@
+-- The laws of rain, as listed and as a storm's.
+pub mod Rains
