@@ -62,18 +62,6 @@ pub lose-spec : {M : Type 1} → statement M
 lose-spec =
     tie.close
     (tie.spec
-    Inv-loop
-    μ-loop
-    (λ c. record { up = omega arith; long = refl; left = omega arith; done = refl })
-    (λ c. omega arith)  -- mul-rain
-    (λ c. omega arith)  -- slice-read-rain
-    add-total
-    (λ c κs. tt)  -- loss-of-requires
-    (λ c. rw (c .before .before .loss-of .ensures) (loss-within _ _ _ _))  -- sub-rain
-    (λ c. omega arith)  -- mul-rain-2
-    (λ c. omega arith)  -- slice-write-rain
-    (λ c. omega arith)  -- add-i
-    (λ c. omega arith)  -- loop-less
-    loop-again
-    (λ c. c .before .loop .inv .long)  -- same-length
-    returns)
+    Inv-loop μ-loop (λ c. record { up = omega arith; long = refl; left = omega arith; done = refl }) (λ c. omega arith) (λ c. omega arith) add-total (λ c κs. tt)
+    (λ c. rw (c .before .before .loss-of .ensures) (loss-within _ _ _ _)) (λ c. omega arith) (λ c. omega arith) (λ c. omega arith) (λ c. omega arith) loop-again
+    (λ c. c .before .loop .inv .long) returns)

@@ -82,19 +82,5 @@ pub cut-spec : {M : Type 1} → statement M
 cut-spec =
     tie.close
     (tie.spec
-    Inv-loop
-    μ-loop
-    loop-holds
-    (λ c. omega arith)  -- mul-sum
-    (λ c. omega arith)  -- slice-read-sum
-    add-sum
-    mul-share
-    (λ c. omega arith)  -- div-share
-    sub-xs
-    (λ c. omega arith)  -- mul-xs
-    (λ c. omega arith)  -- slice-write-xs
-    (λ c. omega arith)  -- add-i
-    (λ c. omega arith)  -- loop-less
-    loop-again
-    (λ c. c .before .loop .inv .long)  -- same-length
-    returns)
+    Inv-loop μ-loop loop-holds (λ c. omega arith) (λ c. omega arith) add-sum mul-share (λ c. omega arith) sub-xs (λ c. omega arith) (λ c. omega arith)
+    (λ c. omega arith) (λ c. omega arith) loop-again (λ c. c .before .loop .inv .long) returns)

@@ -58,15 +58,5 @@ pub list-rain-spec : {M : Type 1} → statement M
 list-rain-spec =
     tie.close
     (tie.spec
-    Inv-loop
-    μ-loop
-    loop-holds
-    (λ c κs. c .before .before .before .before .pre .1)
-    (λ c. omega arith)
-    (λ c. omega arith)
-    add-sum
-    (λ c. omega arith)
-    (λ c. omega arith)
-    loop-again
-    (λ c. c .before .loop .inv .filled .long)
-    returns)
+    Inv-loop μ-loop loop-holds (λ c κs. c .before .before .before .before .pre .1) (λ c. omega arith) (λ c. omega arith) add-sum (λ c. omega arith)
+    (λ c. omega arith) loop-again (λ c. c .before .loop .inv .filled .long) returns)
