@@ -3,8 +3,9 @@
 # Writes decks, runs them through the second program and counts the answers.
 # The program is target/second/hec1, built here, or the one named with --program.
 # Fails when a refusal is missing, one that depends on rooms in the cases, any
-# other in the bundle, when a sound or a long deck is refused, or when a pair is
-# violated.
+# other in the bundle, when the bundle's accepted decks lack a way in which an
+# initial loss is filled or do not tell a wrong rule of loss from the right one,
+# when a sound or a long deck is refused, or when a pair is violated.
 set -u
 root=$(CDPATH= cd -- "$(dirname -- "$0")/.." && pwd)
 . "$root/second/kit.sh" || exit 2
@@ -69,6 +70,7 @@ count() {
 "$decks" bundle "$seed" "$bundle" > "$work/decks"
 "$hec1" --bundle < "$work/decks" > "$work/out" || failed=$((failed + 1))
 check count bundle "$(deck_refusals)" < "$work/out"
+check "$root/target/second/losses" < "$work/decks"
 
 "$decks" cases "$seed" "$cases" > "$work/decks"
 "$hec1" --cases < "$work/decks" > "$work/out" || failed=$((failed + 1))

@@ -1,5 +1,5 @@
 /* The deck writer: seeded test decks for the engine of document 01, with the
-   storm totals of document 02, CR 1. */
+   storm totals and the losses of document 02, CR 1 and CR 2. */
 #include <stdio.h>
 #include <stdlib.h>
 #include <string.h>

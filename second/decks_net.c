@@ -1,6 +1,6 @@
 /* Random networks: blocks, their values and the order in which they stand.
    Every value keeps the limits of document 01 and of document 02, CR 1, unless
-   flows are to be wild. */
+   flows are to be wild; losses are aimed at the rule of document 02, CR 2. */
 #include <string.h>
 #include "decks.h"
 
@@ -243,6 +243,56 @@ static void storm_total(Net *n, Block *b, int maxlist)
     b->pb = sum > 0 ? any_total(sum) : 0;
 }
 
+/* A loss as LU takes it. */
+static int lawful_loss(int64_t v)
+{
+    return v < 0 ? 0 : v > LIMIT_PI ? LIMIT_PI : (int)v;
+}
+
+/* An interval with rain: the first, the last or any.  -1: there is none. */
+static int wet_interval(const Block *b)
+{
+    int wet[LIMIT_NQ], n = 0, i;
+    for (i = 0; i < b->npi; i++)
+        if (b->pi[i] > 0)
+            wet[n++] = i;
+    if (n == 0)
+        return -1;
+    return pct(30) ? wet[0] : pct(40) ? wet[n - 1] : wet[rnd(n)];
+}
+
+/* Aims the initial loss at one interval: filled at its end, 0.0001 inch before
+   or behind that, 0.0001 inch behind its beginning, or anywhere inside; and the
+   uniform loss at what is left there: none of it, a part, nearly all, all. */
+static void aim_losses(const Net *n, Block *b)
+{
+    int i = wet_interval(b);
+    if (i < 0)
+        return;
+    if (i > 1 && pct(30))
+        b->pi[between(1, i - 1)] = 0;              /* a dry interval on the way */
+    int64_t end = fallen(b, i + 1);
+    int from = lawful_loss(fallen(b, i) / 60), to = lawful_loss(end / 60);
+    switch (rnd(9)) {
+    case 0: case 1: b->lu1 = to; break;
+    case 2: b->lu1 = lawful_loss(to - 1); break;
+    case 3: b->lu1 = lawful_loss(to + 1); break;
+    case 4: b->lu1 = lawful_loss(from + 1); break;
+    default: b->lu1 = between(from, to); break;
+    }
+    int64_t rest = end - 60 * (int64_t)b->lu1;
+    if (rest < 0)
+        return;
+    switch (rnd(7)) {
+    case 0: b->lu2 = 0; break;
+    case 1: case 2: b->lu2 = lawful_loss(rest / n->m); break;
+    case 3: b->lu2 = lawful_loss(rest / n->m + 1); break;
+    case 4: b->lu2 = lawful_loss(rest / n->m - 1); break;
+    case 5: b->lu2 = between(0, lawful_loss(rest / n->m)); break;
+    default: break;
+    }
+}
+
 static void runoff(Net *n, Block *b, int maxlist, int64_t budget, int wild)
 {
     static const int tops[] = { 1, 7, 100, 2500, 10000, 10000, 30000, 200000 };
@@ -301,6 +351,8 @@ static void runoff(Net *n, Block *b, int maxlist, int64_t budget, int wild)
     case 6: case 7: b->lu2 = even > LIMIT_PI ? LIMIT_PI : (int)even; break;
     default: b->lu2 = even > 0 ? between(0, even > LIMIT_PI ? LIMIT_PI : (int)even) : 0; break;
     }
+    if (pct(40))
+        aim_losses(n, b);
 }
 
 static void inflow(Net *n, Block *b, int maxlist, int64_t budget, int wild)
@@ -438,6 +490,21 @@ void net_random(Net *n, int blocks, int hold, int maxlist, int flow, int routed)
     net_names(n, 0);
 }
 
+/* Puts an initial loss on a block without any loss, and as much more rain in
+   its first wet interval, so that the excess stays.  A total that is shared by
+   several intervals is left alone. */
+static void add_initial_loss(Block *b, int first, int wet)
+{
+    if (b->has_pb && wet > 1)
+        return;
+    int most = b->has_pb ? LIMIT_PB - b->pb : LIMIT_PI - b->pi[first];
+    b->lu1 = between(0, least(most, LIMIT_PI));
+    if (b->has_pb)
+        b->pb += b->lu1;
+    else
+        b->pi[first] += b->lu1;
+}
+
 /* A network whose outlet stands at the flow limit: excess 0 at it, below 0
    hundredths under it, above 0 over it (1000 means one flow unit over). */
 void net_limit(Net *n, int leaves, int excess)
@@ -516,6 +583,8 @@ void net_limit(Net *n, int leaves, int excess)
                     q /= 100;
                 }
             }
+            if (pct(40))
+                add_initial_loss(b, steady ? 0 : at, wet);
             b->nui = 1;
             b->ui[0] = q;
         } else {

@@ -1,8 +1,9 @@
 /* The hydrograph engine; see engine.h.  The first part holds the water
- * (document 01, 'Water, in whole units', and document 02, CR 1, for rain that
- * comes as a total and a pattern), the second the records and their
- * limits, the third the blocks and the order of the refusals ('What comes
- * back').  Functions that can refuse return the refusal's number, 0 if none. */
+ * (document 01, 'Water, in whole units'; document 02, CR 1, for rain that
+ * comes as a total and a pattern, and CR 2 for the losses), the second the
+ * records and their limits, the third the blocks and the order of the refusals
+ * ('What comes back').  Functions that can refuse return the refusal's number,
+ * 0 if none. */
 #include "engine.h"
 
 #include "cards.h"
@@ -112,21 +113,28 @@ static void find_rain(const struct list *cards, const struct storm *storm,
         memset(rain, 0, cards->count * sizeof *rain);
 }
 
-/* Takes the loss off the rain of each interval: what stays is the excess. */
+static uint32_t least(uint32_t a, uint32_t b)
+{
+    return a < b ? a : b;
+}
+
+/* Takes the loss off the rain of each interval: what stays is the excess.
+ * The initial loss is a depth to be filled, and what is unfilled of it takes
+ * its part first.  The uniform loss comes off the rest and is that of a whole
+ * interval, however late in the interval the filling ends.  32 bits do: it is
+ * at most 200,000 * 1,440 units, the initial loss 200,000 * 60. */
 static void take_loss(uint32_t *rain, unsigned count, const struct loss *loss,
                       uint32_t minutes)
 {
-    uint64_t initial = (uint64_t)loss->initial * DEPTH_PER_TEN_THOUSANDTH;
-    uint64_t uniform = (uint64_t)loss->uniform * minutes;
-    uint64_t total = 0;
+    uint32_t unfilled = loss->initial * DEPTH_PER_TEN_THOUSANDTH;
+    uint32_t uniform = loss->uniform * minutes;
 
     for (unsigned i = 0; i < count; i++) {
-        uint64_t depth = rain[i];
-        total += depth;
-        if (total <= initial || depth <= uniform)
-            rain[i] = 0;
-        else
-            rain[i] = (uint32_t)(depth - uniform);
+        uint32_t filling = least(unfilled, rain[i]);
+        uint32_t rest = rain[i] - filling;
+
+        unfilled -= filling;
+        rain[i] = rest - least(uniform, rest);
     }
 }
 

@@ -1,5 +1,6 @@
-/* The hydrograph engine of document 01 and document 02, CR 1: one deck in, the
- * hydrographs of its blocks out, all in memory that the caller lends. */
+/* The hydrograph engine of document 01 and document 02, CR 1 and CR 2: one
+ * deck in, the hydrographs of its blocks out, all in memory that the caller
+ * lends. */
 #ifndef ENGINE_H
 #define ENGINE_H
 

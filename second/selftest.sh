@@ -1,8 +1,8 @@
 #!/usr/bin/env bash
 # Self-test of the second program.  Builds it and the fuzz driver with the
 # address and undefined-behaviour sanitizers, runs small decks against outcomes
-# worked out by hand from document 01 and document 02, CR 1, then the fuzz.  The
-# last line counts.
+# worked out by hand from document 01 and document 02, CR 1 and CR 2, then the
+# fuzz.  The last line counts.
 #
 # Decks and expected texts are written with printf's escapes (\n, \r, \xHH).
 set -u
@@ -10,6 +10,7 @@ here=$(CDPATH= cd -- "$(dirname -- "$0")" && pwd)
 out=$here/../target/second
 prog=$out/hec1-checked
 fuzz=$out/fuzz-checked
+losses=$out/losses-checked
 mkdir -p "$out"
 scratch=$(mktemp -d) || exit 1
 trap 'rm -rf "$scratch"' EXIT
@@ -23,6 +24,7 @@ build() {
 }
 build "$prog" "$here/main.c" "$here/engine.c" "$here/cards.c"
 build "$fuzz" "$here/fuzz.c" "$here/engine.c" "$here/cards.c"
+build "$losses" "$here/losses.c" "$here/cards.c"
 
 # Nothing is looked for that was not freed: each run ends at once, and on some
 # machines the search takes seconds a run.
@@ -460,7 +462,7 @@ wet="${free}KK A\nBA 1\nPI 20\nUI 0.01\n"           # 6 lines
 flows '0 0 0 0' "${wet}LU 20,0\nZZ\n"
 flows '0 0 0 0' "${wet}LU 0,20\nZZ\n"
 flows '0 0 0 0' "${wet}LU 20.0000,20.0000,0.00\nZZ\n"
-flows '12000000 0 0 0' "${wet}LU 19.9999,0\nZZ\n"
+flows '60 0 0 0' "${wet}LU 19.9999,0\nZZ\n"
 flows '60 0 0 0' "${wet}LU 0,19.9999\nZZ\n"
 flows '12000000 0 0 0' "${wet}LU\nZZ\n"             # blank fields are 0
 flows '12000000 0 0 0' "${wet}LU ,,-0\nZZ\n"
@@ -669,18 +671,12 @@ flows '60000000 180000000' "*FREE\nIT 60,,,2\nKK A\n${ui12}PI 1,1\nZZ\n"
 flows '60000000 180000000' "*FREE\nIT 60,,,2\nKK A\nBA 1\nLU 0,0\nUI 1,2,3,4\nPI 1,1\nZZ\n"
 flows '0 60000000 120000000 60000000' "${free}KK A\n${ui12}PI 0,1,,1\nZZ\n"
 loss() { printf '*FREE\\nIT %s,,,4\\nKK A\\nBA 1\\nUI .01\\nLU %s\\nPI %s\\nZZ\\n' "$1" "$2" "$3"; }
-flows '0 0 84000 84000' "$(loss 60 0.5,0.06 0.2,0.2,0.2,0.2)"
-flows '0 120000 120000 0' "$(loss 60 0.2,0 0.2,0.2,0.2)"        # met exactly
-flows '0 120000 120000 0' "$(loss 60 0.3999,0 0.2,0.2,0.2)"
-flows '0 0 120000 0' "$(loss 60 0.4,0 0.2,0.2,0.2)"
 flows '0 0 600000 0' "$(loss 60 0,0 0,0,1)"
 flows '0 0 599999 0' "$(loss 1 0,0.0001 0,0,1)"
 flows '0 598560 0 598560' "$(loss 1440 0,0.0001 0,1,0,1)"
 flows '11800000 0 0 0' "$(loss 1 0,20 20)"
 flows '0 0 0 0' "$(loss 1440 0,20 20,20,20,20)"
 flows '0 0 0 6000' "$(loss 60 0,0.1 0.1,0.05,0.0999,0.11)"
-flows '0 60 60 60' "$(loss 60 0.0001,0 0.0001,0.0001,0.0001,0.0001)"
-flows '0 0 600000 0' "$(loss 60 1,0 0.5,0.5,1,0)"
 # peaks print in hundredths, half up; the sum does not round
 lists 'A 1 1.00 0.00 1 299999\nEND 1\n' "$(loss 1 0,0.0001 0.5)"
 lists 'A 1 1.00 0.01 1 300000\nEND 1\n' "$(loss 1 0,0 0.5)"
@@ -770,14 +766,16 @@ flows '0 6000 6000 6000' "$(storm .0004 1,1,1,1 4 .0001)"
 flows '0 0 6000 6000' "$(storm .0004 1,1,1,1 4 .0002)"
 flows '0 0 0 6000' "$(storm .0004 1,1,1,1 4 .0003)"
 flows '0 0 0 0' "$(storm .0004 1,1,1,1 4 .0004)"
-flows '6100 5900 0 0' "$(storm .0002 .0061,.0059 4 .0001)"  # one over the loss
-flows '0 6000 0 0' "$(storm .0002 .0060,.0060 4 .0001)"     # at it
-flows '0 6100 0 0' "$(storm .0002 .0059,.0061 4 .0001)"     # one under it
+flows '100 5900 0 0' "$(storm .0002 .0061,.0059 4 .0001)"   # 61 is one over the loss of 60
+flows '0 6000 0 0' "$(storm .0002 .0060,.0060 4 .0001)"     # 60 is the loss
+flows '0 6000 0 0' "$(storm .0002 .0059,.0061 4 .0001)"     # 59 is one under it: 61 - 1
 flows '0 0 0 0' "$(storm .0001 20,20 4 .0001)"
-flows '10500 10500 10500 10500' "$(storm .0007 1,1,1,1 4 .0001)"
-flows '0 10500 10500 10500' "$(storm .0007 1,1,1,1 4 .0002)"
-flows '0 10500 10500 10500' "$(storm .0007 1,1,1,1 4 .0003)"
-flows '0 0 10500 10500' "$(storm .0007 1,1,1,1 4 .0004)"
+# 105 in each interval, of which 60, 120 (105 + 15), 180 (105 + 75) and 240
+# (105 + 105 + 30) fill the loss
+flows '4500 10500 10500 10500' "$(storm .0007 1,1,1,1 4 .0001)"
+flows '0 9000 10500 10500' "$(storm .0007 1,1,1,1 4 .0002)"
+flows '0 3000 10500 10500' "$(storm .0007 1,1,1,1 4 .0003)"
+flows '0 0 7500 10500' "$(storm .0007 1,1,1,1 4 .0004)"
 flows '4500 4500 4500 4500' "$(storm .0007 1,1,1,1 4 0,.0001)"
 flows '0 0 0 0' "$(storm .0004 1,1,1,1 4 0,.0001)"
 flows '0 100 0 0' "$(storm .0002 .0059,.0061 4 0,.0001)"
@@ -939,6 +937,217 @@ for k in 1 3; do
     check "the ten-year storm, rain of block $k" "$text" "$got"
 done
 
+# ---- Losses (document 02, CR 2) -------------------------------------------
+
+# In inches, unless said otherwise.  A depth of 0.1 is 60,000 units, 0.01 is
+# 6,000 and 0.0001 is 60; the ordinates of 'loss' are excess in these units.
+# With LU 0.50,0.10 and 60 minutes 0.50 is to be filled, and an interval's
+# uniform loss is 0.10.
+hourly() { loss 60 0.50,0.10 "$1"; }
+
+# the deck of document 01: 0.50 fills it, 0.30 - 0.10, 0.10 - 0.10
+flows '0 120000 0 0' "$(hourly 0.50,0.30,0.10)"
+# a first interval of 0.60: 0.60 - 0.50 - 0.10; then as above
+flows '0 0 0 0' "$(hourly 0.60)"
+flows '0 120000 0 0' "$(hourly 0.60,0.30,0.10)"
+lists "$pond_list" "${pond/0.50,0.30/0.60,0.30}"
+# 0.0001 less and 0.0001 more than both losses
+flows '0 0 0 0' "$(hourly 0.5999)"
+flows '60 0 0 0' "$(hourly 0.6001)"
+# filled inside an interval, with excess: 0.75 - 0.50 - 0.10 = 0.15 in the
+# first one; 0.60 - 0.30 - 0.10 = 0.20 in the second; 0.40 - 0.10 - 0.10 in the
+# last; every later 0.30 leaves 0.20
+flows '90000 120000 0 0' "$(hourly 0.75,0.30)"
+flows '0 120000 120000 0' "$(hourly 0.20,0.60,0.30)"
+flows '0 0 0 120000' "$(hourly 0.20,0.10,0.10,0.40)"
+flows '0 0 24000 84000' "$(loss 60 0.5,0.06 0.2,0.2,0.2,0.2)"   # 0.2 - 0.1 - 0.06 = 0.04
+# filled inside an interval, and the uniform loss takes the 0.05 or 0.10 left
+flows '0 120000 0 0' "$(hourly 0.55,0.30)"
+flows '0 0 120000 0' "$(hourly 0.20,0.35,0.30)"
+flows '0 0 0 0' "$(hourly 0.20,0.10,0.10,0.15)"
+flows '0 0 120000 0' "$(hourly 0.20,0.40,0.30)"
+flows '0 60 120000 0' "$(hourly 0.20,0.4001,0.30)"
+# filled exactly at an interval's end: 0.20 + 0.30; 0.50 in the last one; and
+# 0.0001 before that end (60 are left in its interval) and behind it (0.30
+# less 0.0001 in the next one)
+flows '0 0 120000 0' "$(hourly 0.20,0.30,0.30)"
+flows '0 0 0 0' "$(hourly 0,0,0,0.50)"
+flows '0 0 0 60' "$(loss 60 0.4999 0,0,0,0.50)"
+flows '0 0 180000 0' "$(loss 60 0.50,0 0.20,0.30,0.30)"
+flows '0 60 180000 0' "$(loss 60 0.4999,0 0.20,0.30,0.30)"
+flows '0 0 179940 0' "$(loss 60 0.5001,0 0.20,0.30,0.30)"
+flows '0 0 120000 0' "$(loss 60 0.4999,0.10 0.20,0.30,0.30)"
+flows '0 0 119940 0' "$(loss 60 0.5001,0.10 0.20,0.30,0.30)"
+flows '0 120000 120000 0' "$(loss 60 0.2,0 0.2,0.2,0.2)"
+flows '0 60 120000 0' "$(loss 60 0.3999,0 0.2,0.2,0.2)"         # 0.2 - 0.1999
+flows '0 0 120000 0' "$(loss 60 0.4,0 0.2,0.2,0.2)"
+flows '0 60 60 60' "$(loss 60 0.0001,0 0.0001,0.0001,0.0001,0.0001)"
+flows '0 0 600000 0' "$(loss 60 1,0 0.5,0.5,1,0)"
+# never filled: 0.4999 and 0.40 of 0.50; no rain at all
+flows '0 0 0 0' "$(hourly 0.20,0.20,0.0999)"
+flows '0 0 0 0' "$(loss 60 0.50,0 0.10,0.10,0.10,0.10)"
+flows '0 0 0 0' "$(hourly 0,0)"
+flows '0 0 0 0' "$(hourly '')"
+# no initial loss, 0 or blank: 0.60 - 0.10 and 0.30 - 0.10
+flows '300000 120000 0 0' "$(loss 60 0,0.10 0.60,0.30)"
+flows '300000 120000 0 0' "$(loss 60 ,0.10 0.60,0.30)"
+# no uniform loss, 0 or blank: 0.60 - 0.50, and 0.30
+flows '60000 180000 0 0' "$(loss 60 0.50,0 0.60,0.30)"
+flows '60000 180000 0 0' "$(loss 60 0.50 0.60,0.30)"
+# a dry interval fills nothing and forgets nothing: 0.60 - 0.30 - 0.10 behind
+# it; in front of all rain, 0.75 - 0.50 - 0.10
+flows '0 0 120000 120000' "$(hourly 0.20,0,0.60,0.30)"
+flows '0 0 120000 120000' "$(hourly 0.20,,0.60,0.30)"
+flows '0 0 0 120000' "$(hourly 0.20,0,0,0.60)"
+flows '0 0 90000 120000' "$(hourly 0,0,0.75,0.30)"
+# and once it is filled it stays so
+flows '90000 0 0 120000' "$(hourly 0.75,0,0,0.30)"
+# unfilled through several intervals: 0.05 is open in the fourth, 0.30 - 0.15
+flows '0 0 0 90000' "$(hourly 0.10,0.15,0.20,0.30)"
+flows '0 0 0 60' "$(loss 60 0.0010,0 0.0003,0.0003,0.0003,0.0002)"
+# daily intervals, one big first day: a day of 0.01 an hour is 0.24, so
+# 3.00 - 0.50 - 0.24 = 2.26 and 1.00 - 0.24; a day of 0.10 is 2.40, so
+# 6.00 - 2.00 - 2.40 = 1.60, 4.40 - 2.00 - 2.40 = 0 and 4.4001 leaves 0.0001
+flows '1356000 456000 0 0' "$(loss 1440 0.50,0.01 3.00,1.00)"
+flows '960000 0 0 0' "$(loss 1440 2,0.10 6.00,1.00)"
+flows '0 0 0 0' "$(loss 1440 2,0.10 4.40,1.00)"
+flows '60 0 0 0' "$(loss 1440 2,0.10 4.4001,2.40)"
+flows '0 0 0 0' "$(loss 1440 2,0.10 4.00,1.00)"
+# the interval in which it is filled loses the uniform loss of a whole one:
+# 1.00 - 0.50 - 0.30 = 0.20, where half of it would leave 0.35; and
+# 1.00 - 0.70 - 0.30 = 0, where three tenths of it would leave 0.21
+flows '120000 0 0 0' "$(loss 60 0.50,0.30 1.00)"
+flows '0 0 0 0' "$(loss 60 0.90,0.30 0.20,1.00)"
+# the initial loss comes first: 0.30 + 0.20 fill it, the 0.10 left is lost, then
+# 0.20.  Taken behind the uniform loss it would be filled by 0.20 + 0.20 + 0.10,
+# and leave 0.10 in the third interval.
+flows '0 0 120000 0' "$(hourly 0.30,0.30,0.30)"
+# The other way round three times 0.10 would be lost and fill nothing; as it is
+# they fill 0.30, and the fourth interval leaves 0.20 - 0.10.
+flows '0 0 0 60000' "$(loss 60 0.30,0.10 0.10,0.10,0.10,0.20)"
+# M times the LU value: 7 times 3 units off 60, without and with 60 to fill
+flows '39 0 0 0' "$(loss 7 0,0.0003 0.0001)"
+flows '39 39 0 0' "$(loss 7 0.0001,0.0003 0.0002,0.0001)"
+# the limits: 20 is 12,000,000 units to fill; 20 an hour are 200,000 units in a
+# minute and 288,000,000 in a day
+flows '0 12000000 0 0' "$(loss 1440 20,0 20,20)"
+flows '60 12000000 0 0' "$(loss 1440 19.9999,0 20,20)"
+flows '0 11800000 0 0' "$(loss 1 20,20 20,20)"
+flows '0 27 0 0' "$(loss 1 20,0.3333 20,0.0056,0.0055)"         # 3,360 - 3,333, and 3,300
+flows '0 0 0 0' "$(loss 1440 20,20 20,20,20,20)"
+flows '0 0 0 0' "$(loss 1440 0,20 20,20,20,20)"
+# what is unfilled in one block is nothing to the next: 0.30 - 0.20 in both
+two_basins="${free}$(times 2 'KK A\nBA 1\nUI .01\nLU 0.50,0\nPI 0.30,0.30\n')KK C\nHC 2\nZZ\n"
+flows '0 60000 0 0' "$two_basins" 1
+flows '0 60000 0 0' "$two_basins" 2
+flows '0 120000 0 0' "$two_basins"
+# on a unit graph of 2 and 1: excess 0.15 and 0.20
+flows '18000000 33000000 12000000 0' "${free}KK A\nBA 1\nLU 0.50,0.10\nPI 0.75,0.30\nUI 2,1\nZZ\n"
+# at the flow limit only by the loss: 2.5 - 0.5 inches on 50,000 cfs
+flows '6000000000000 0 0 0' "${free}KK A\nBA 1\nPI 2.5\nLU 0.5\nUI 50000\nZZ\n"
+refused 13 8 "${free}KK A\nBA 1\nPI 2.5001\nLU 0.5\nUI 50000\nZZ\n"
+
+# The same off rain that is cut from a total, again with excess for ordinates:
+# cut_loss MINUTES NQ TOTAL PATTERN LU.
+cut_loss() { printf '*FREE\\nIT %s,,,%s\\nKK A\\nBA 1\\nUI .01\\nPB %s\\nPI %s\\nLU %s\\nZZ\\n' "$@"; }
+# where the total is the pattern's own sum: 0.60 - 0.50 - 0.10, 0.30 - 0.10
+flows '0 120000 0 0' "$(cut_loss 60 4 0.90 0.60,0.30 0.50,0.10)"
+# 120 units in sevenths fall as six times 17 and 18.  Three of them fill 51 of
+# 60, the fourth fills 9 and leaves 8; of that 7, 8 or 9 are lost.
+sevenths() { cut_loss 1 7 .0002 1,1,1,1,1,1,1 "$1"; }
+flows '0 0 0 8 17 17 18' "$(sevenths .0001)"
+flows '0 0 0 1 10 10 11' "$(sevenths .0001,.0007)"
+flows '0 0 0 0 9 9 10' "$(sevenths .0001,.0008)"
+flows '0 0 0 0 8 8 9' "$(sevenths .0001,.0009)"
+flows '0 0 0 0 0 0 0' "$(sevenths .0002)"           # the last interval ends it
+flows '0 0 0 0 0 0 0' "$(sevenths .0003)"           # never filled
+flows '7 7 7 7 7 7 8' "$(sevenths 0,.0010)"         # none to fill
+# 60 to fill and 1 a minute, off 62, 61, 60 or 59 units of 120: 62 - 61,
+# 61 - 61, 60 - 60, 59 - 59; then 58 - 1, 59 - 1, 60 - 1, 61 - 1 - 1
+flows '1 57' "$(cut_loss 1 2 .0002 .0062,.0058 .0001,.0001)"
+flows '0 58' "$(cut_loss 1 2 .0002 .0061,.0059 .0001,.0001)"
+flows '0 59' "$(cut_loss 1 2 .0002 .0060,.0060 .0001,.0001)"
+flows '0 59' "$(cut_loss 1 2 .0002 .0059,.0061 .0001,.0001)"
+# dry in the middle: 60, 0, 180; 120 to fill leave 120, and 20 of that is lost
+flows '0 0 120 0' "$(cut_loss 1 4 .0004 1,0,3 .0002)"
+flows '0 0 100 0' "$(cut_loss 1 4 .0004 1,0,3 .0002,.0020)"
+# 100 in a first day: 60,000,000 units less 12,000,000 to fill and a day's
+# 7,200,000, 47,999,520, 48,000,960 or 288,000,000
+flows '40800000 0' "$(cut_loss 1440 2 100 1 20,0.5)"
+flows '480 0' "$(cut_loss 1440 2 100 1 20,3.3333)"
+flows '0 0' "$(cut_loss 1440 2 100 1 20,3.3334)"
+flows '0 0' "$(cut_loss 1440 2 100 1 20,20)"
+# 20 an hour: 48,000,000 in 240 minutes, 200,000 less in 239
+flows '0 0' "$(cut_loss 240 2 100 1 20,20)"
+flows '200000 0' "$(cut_loss 239 2 100 1 20,20)"
+flows '47800000 0' "$(cut_loss 1 2 100 1 20,20)"
+flows '0 0' "$(cut_loss 1440 2 0 1,1 20,20)"
+
+# Any rain and any losses, worked in another way: from running totals, with
+# nothing carried.  The rain so far less the initial loss, where that is above 0,
+# has been left by it so far; an interval's part of that is a difference.
+# 'excess' has two lines a deck: NQ, then the ordinates.  The numbers stay below
+# 2^53.
+basins=300
+awk -v n="$basins" -v scratch="$scratch" '
+    function chance(below) {
+        seed = seed * 16807 % 2147483647
+        return seed % below
+    }
+    function inches(v) { return sprintf("%d.%04d", (v - v % 10000) / 10000, v % 10000) }
+    function above(a, b) { return a > b ? a - b : 0 }
+    function one(k,    minutes, nq, count, i, top, total, sum, all, initial, uniform, left, x, line, deck, text) {
+        minutes = chance(3) ? 1 + chance(60) : chance(2) ? 1440 : 60
+        nq = 1 + chance(12)
+        count = 1 + chance(nq)
+        top = 3 * 10 ^ chance(5)
+        sum = 0
+        for (i = 1; i <= count; i++) {
+            p[i] = chance(4) ? chance(top + 1) : 0
+            sum += p[i]
+        }
+        total = sum > 0 && chance(2) ? 1 + chance(k % 3 ? 2 * sum : 1000000) : -1
+        if (total > 1000000) total = 1000000
+        x = 0                                       # fallen[i]: rain up to and with interval i, in depth units
+        fallen[0] = 0
+        for (i = 1; i <= nq; i++) {
+            if (i <= count) x += p[i]
+            fallen[i] = total < 0 ? 60 * x : (60 * total * x - 60 * total * x % sum) / sum
+        }
+        all = (fallen[nq] - fallen[nq] % 60) / 60
+        i = 1 + chance(count)                       # around the end of an interval, or anywhere
+        initial = chance(2) ? (fallen[i] - fallen[i] % 60) / 60 + chance(3) - 1 : chance(all + 2)
+        if (initial < 0) initial = 0
+        if (initial > 200000) initial = 200000
+        x = above(fallen[i], 60 * initial)
+        uniform = chance(3) ? (x - x % minutes) / minutes + chance(3) - 1 : chance(2) ? chance(top + 1) : 0
+        if (uniform < 0) uniform = 0
+        if (uniform > 200000) uniform = 200000
+        deck = scratch "/basin." k
+        printf "*FREE\nIT %d,,,%d\nKK A\nBA 1\nUI .01\nLU %s,%s\n", minutes, nq, inches(initial), inches(uniform) >deck
+        if (total >= 0) print "PB " inches(total) >deck
+        for (i = 1; i <= count; i++) print "PI " inches(p[i]) >deck
+        print "ZZ" >deck
+        close(deck)
+        text = ""
+        for (i = 1; i <= nq; i++) {
+            left = above(fallen[i], 60 * initial) - above(fallen[i - 1], 60 * initial)
+            text = text (i > 1 ? " " : "") sprintf("%.0f", above(left, minutes * uniform))
+        }
+        print nq
+        print text
+    }
+    BEGIN {
+        seed = 20240302
+        for (k = 1; k <= n; k++) one(k)
+    }' >"$scratch/excess"
+for ((k = 1; k <= basins; k++)); do
+    read -r nq && read -r text || break
+    got=$("$prog" --full --ordinates "$nq" <"$scratch/basin.$k" | sed -n 2p)
+    check "losses, basin $k" "$text" "$got"
+done <"$scratch/excess"
+check 'as many basins as were asked for' $((basins + 1)) "$k"
+
 # ---- Bundles and cases ---------------------------------------------------
 
 le4() { # a number as 4 bytes
@@ -981,6 +1190,29 @@ check 'an unknown option' 'status 2, said' "$(run --nonsense </dev/null)"
 check 'an option without its number' 'status 2, said' "$(run --full --named </dev/null)"
 check 'an option with a bad number' 'status 2, said' "$(run --full --named 1x </dev/null)"
 check 'two modes' 'status 2, said' "$(run --full --cases </dev/null)"
+
+# The counter of losses, on blocks whose way and whose wrong rules are known:
+# the deck of document 01 is filled at the end of its first interval (another
+# excess by b: 0.30 - 0.10 - 0.10, and by e: 0); 0.60 alone leaves the uniform
+# loss (a: 0.50; c: 0.10 less a sixth of 0.10); with PB, the fourth of the
+# sevenths leaves 1 (a: 10; b: nothing; c: 8 - 3; d: 10 in the second; e:
+# nothing); a total of 0 fills nothing; no loss to fill; 0.4999 with a dry
+# interval on the way (d: 0.1999 in the third).  A refused deck is not counted.
+known=$(sized "$pond")$(sized "$(hourly 0.60)")$(sized "$(sevenths .0001,.0007)")
+known+=$(sized "$(cut_loss 60 2 0 1 .5)")$(sized "$(loss 60 0,0.10 0.60,0.30)")
+known+=$(sized "$(hourly 0.20,0,0.2999)")$(sized "${pond/HC 2/HC 3}")
+# without PB and with PB: all; inside with excess, inside without, at an end,
+# never, none to fill; rest like the uniform loss; first, middle, last interval;
+# dry; just before, just behind, just not; then the wrong rules a to e
+expected='4 2,0 1,1 0,1 0,1 1,1 0,1 0,2 0,0 1,0 0,1 0,0 1,0 1,1 0,1 1,1 1,1 1,1 1,1 1,'
+got=$(printf '%b' "$known" | "$losses" | awk '$1 ~ /^[0-9]/ { printf "%s %s,", $1, $2 }')
+check 'losses counted' "$expected" "$got"
+got=$(printf '%b' "$known" | "$losses" | grep -c ': MISSING$')
+check 'losses: what is missing' 12 "$got"
+printf '%b' "$known" | "$losses" >"$scratch/said"
+check 'losses: a count of 0 fails' 1 $?
+printf '%b' "$(sized "$pond")\x01" | "$losses" >"$scratch/said" 2>&1
+check 'losses: input cut short' 2 $?
 
 # ---- Fuzz ----------------------------------------------------------------
 

@@ -1,10 +1,11 @@
 -- The cut of a running sum by the share n of d. A storm's total is cut so, T of S(last), and so is whatever else is a share of a running sum.
 --     cut-rises     the share of a running sum never falls as the sum runs on, so that no piece is below zero
 --     sum-cut       the pieces add up to floor(n·S(last)/d); sum-whole: to n itself, where d is S(last)
+--     cut-pieces    a piece is made of the element and the running sum that is carried to it
 --     cut-dry       where nothing falls nothing is cut, and behind the last that falls nothing either
 --     cut-none      the share 0 is nothing, whatever is cut
 --     length-cut    there are as many pieces
---     cut-within    a piece is at most what all of them add up to; cut-whole, sum-within: at most n, where d is S(last), be it 0 or not
+--     cut-within    a piece is at most what all of them add up to; cut-whole: at most n, where d is S(last), be it 0 or not
 use Prim.Native.Nat.{ℕ, zero, suc, _+_, _-_, _*_, _/_, _≤_, _<_, zero-le}
 use mathlib.Core.Path.{_≡_, refl, sym, ap, _∙_}
 use mathlib.Core.List.{List, [], _∷_, _++_}
@@ -13,11 +14,16 @@ use native.Mathlib.Omega.{arith}
 use lib.ListN.{length, replicate}
 use Rattle.meaning.specs.Water.{sumOf, cutAfter, cutOf}
 use Rattle.sequences.specs.Bounds.{AllUpTo}
+use Rattle.sequences.specs.Carrying.{carried, length-carried, carried-dry}
 
 -- Division by one number never falls as what is divided rises.
 div-rises : (d : ℕ) {a b : ℕ} → a ≤ b → a / d ≤ b / d
 div-rises zero {a} h = rw (div-zero a) zero-le
 div-rises (suc d) {a} h = let some : 0 < suc d = omega arith in le-div-iff-mul-le some .1 (le-trans (div-mul-le-self a (suc d)) h)
+
+-- One piece, with so much before it.
+abbrev pub piece : (n d before x : ℕ) → ℕ
+piece n d before x = n * (before + x) / d - n * before / d
 
 module _ (n d : ℕ) where
   pub cut-rises : (before x : ℕ) → n * before / d ≤ n * (before + x) / d
@@ -34,28 +40,22 @@ module _ (n d : ℕ) where
       let all : 0 + sumOf xs ≡ sumOf xs = omega arith in
       omega (arith, rw all at (sum-after 0 xs))
 
-  dry-after : (before k : ℕ) → cutAfter n d before (replicate k 0) ≡ replicate k 0
-  dry-after before zero = refl
-  dry-after before (suc k) =
-      let same : before + 0 ≡ before = omega arith in
-      let none : n * before / d - n * before / d ≡ 0 = omega arith in
-      rw (same, none, dry-after before k)
+  cut-carried : (before : ℕ) (xs : List ℕ) → cutAfter n d before xs ≡ carried (piece n d) _+_ before xs
+  cut-carried before [] = refl
+  cut-carried before (x ∷ xs) = ap (λ (l : List ℕ). piece n d before x ∷ l) (cut-carried (before + x) xs)
 
-  behind-after : (before : ℕ) (xs : List ℕ) (k : ℕ) → cutAfter n d before (xs ++ replicate k 0) ≡ cutAfter n d before xs ++ replicate k 0
-  behind-after before [] k = dry-after before k
-  behind-after before (x ∷ xs) k = ap (λ (l : List ℕ). (n * (before + x) / d - n * before / d) ∷ l) (behind-after (before + x) xs k)
+  pub cut-pieces : (xs : List ℕ) → cutOf n d xs ≡ carried (piece n d) _+_ 0 xs
+  unfolding cutOf
+  cut-pieces xs = cut-carried 0 xs
+
+  no-piece : (before : ℕ) → piece n d before 0 ≡ 0
+  no-piece before = let same : before + 0 ≡ before = omega arith in rw same (omega arith)
 
   pub cut-dry : (xs : List ℕ) (k : ℕ) → cutOf n d (xs ++ replicate k 0) ≡ cutOf n d xs ++ replicate k 0
-  unfolding cutOf
-  cut-dry xs k = behind-after 0 xs k
-
-  length-after : (before : ℕ) (xs : List ℕ) → length (cutAfter n d before xs) ≡ length xs
-  length-after before [] = refl
-  length-after before (x ∷ xs) = ap suc (length-after (before + x) xs)
+  cut-dry xs k = rw (cut-pieces (xs ++ replicate k 0), cut-pieces xs) (carried-dry (piece n d) _+_ no-piece 0 xs k)
 
   pub length-cut : (xs : List ℕ) → length (cutOf n d xs) ≡ length xs
-  unfolding cutOf
-  length-cut xs = length-after 0 xs
+  length-cut xs = rw (cut-pieces xs) (length-carried (piece n d) _+_ 0 xs)
 
 none-after : (d before : ℕ) (xs : List ℕ) → cutAfter 0 d before xs ≡ replicate (length xs) 0
 none-after d before [] = refl
@@ -82,6 +82,3 @@ whole-share n (suc s) = let some : 0 < suc s = omega arith in omega (arith, mul-
 
 pub cut-whole : (n : ℕ) (xs : List ℕ) → AllUpTo n (cutOf n (sumOf xs) xs)
 cut-whole n xs k = omega (arith, cut-within n (sumOf xs) xs k, whole-share n (sumOf xs))
-
-pub sum-within : (n : ℕ) (xs : List ℕ) → sumOf (cutOf n (sumOf xs) xs) ≤ n
-sum-within n xs = omega (arith, sum-cut n (sumOf xs) xs, whole-share n (sumOf xs))

@@ -7,20 +7,22 @@ use native.Mathlib.Numerals.{add-one}
 use native.Mathlib.Omega.{arith}
 use lib.ListN.{length, take, drop, getD, set, length-set}
 use lib.Seq.{drop-set-lt}
-use Rattle.sequences.specs.Overwriting.{overwrite-one, overwrite-done}
+use Rattle.sequences.specs.Carrying.{carried, Carrying, carrying-none, carrying-more, carrying-all}
 use Rattle.sequences.specs.Sums.{sumOf-drop}
-use Rattle.sequences.specs.Cuts.{cut-rises}
-use Rattle.meaning.specs.Water.{sumOf, cutAfter, cutOf}
+use Rattle.sequences.specs.Cuts.{piece, cut-rises, cut-pieces}
+use Rattle.meaning.specs.Water.{sumOf}
 use Rattle.storms.specs.Rains.{share-fits}
 use Rattle.storms.proofs.cut.Statement.{statement}
 use Rattle.storms.proofs.cut.Tie as tie
 
+-- what is still to be cut is what stands there
+abbrev standing : ℕ → List ℕ → List ℕ
+standing i xs = xs
+
 record Inv (n d : ℕ) (xs₀ xs : List ℕ) (sum before i : ℕ) : Type 0 where
-  up : i ≤ length xs₀
-  long : length xs ≡ length xs₀
   left : sum + sumOf (drop i xs) ≡ sumOf xs₀
   share : before ≡ n * sum / d
-  done : take i xs ++ cutAfter n d sum (drop i xs) ≡ cutOf n d xs₀
+  cutting : Carrying (piece n d) _+_ standing xs₀ (carried (piece n d) _+_ 0 xs₀) xs sum i
 
 abbrev Inv-loop : tie.InvT-loop
 Inv-loop xs₀ n d sum₀ before₀ i₀ xs sum before i = Inv n d xs₀ xs sum before i
@@ -29,11 +31,10 @@ abbrev μ-loop : tie.MeasureT-loop
 μ-loop xs₀ n d sum₀ before₀ i₀ xs sum before i = length xs₀ - i
 
 loop-holds : tie.Need-loop-holds Inv-loop μ-loop
-unfolding cutOf
 loop-holds c =
     let x = c .args in
     let none : 0 ≡ x .n * 0 / x .d = sym (ap (λ (m : ℕ). m / x .d) (mul-zero (x .n)) ∙ zero-div (x .d)) in
-    record { up = omega arith; long = refl; left = omega arith; share = none; done = refl }
+    record { left = omega arith; share = none; cutting = carrying-none (piece (x .n) (x .d)) _+_ standing (x .xs .now) 0 }
 
 -- the running sum is at most the whole
 add-sum : tie.Need-add-sum Inv-loop μ-loop
@@ -60,27 +61,26 @@ loop-again c =
     let l = c .before .before .loop in
     let x = c .before .before .before .args in
     let v = l .inv in
-    let sum = l .sum + getD (l .xs) (l .i) 0 in
-    let piece = x .n * sum / x .d - l .before in
-    let rest : drop (l .i + 1) (set (l .xs) (l .i) piece) ≡ drop (l .i + 1) (l .xs) = rw add-one (drop-set-lt (suc (l .i)) (l .xs) (l .i) piece (le-refl (suc (l .i)))) in
-    let turn = overwrite-one (cutAfter (x .n) (x .d) (l .sum)) (cutAfter (x .n) (x .d) sum) in
+    let depth = getD (l .xs) (l .i) 0 in
+    let cut-off = x .n * (l .sum + depth) / x .d - l .before in
+    let rest : drop (l .i + 1) (set (l .xs) (l .i) cut-off) ≡ drop (l .i + 1) (l .xs) = rw add-one (drop-set-lt (suc (l .i)) (l .xs) (l .i) cut-off (le-refl (suc (l .i)))) in
+    let turn = carrying-more (piece (x .n) (x .d)) _+_ standing (x .xs .now) _ (l .xs) (l .sum) (l .i) (v .cutting) in
     record {
-      up = omega arith;
-      long = simp length-set (v .long);
-      left = rw rest (omega (arith, v .left, sumOf-drop (l .xs) (l .i) (omega arith)));
+      left = rw rest (omega (arith, v .left, sumOf-drop (l .xs) (l .i) (omega (arith, v .cutting .long))));
       share = omega arith;
-      done = turn (l .xs) (l .i) piece (omega arith) (rw (v .share)) ∙ v .done;
+      cutting = turn depth cut-off (l .sum + depth) (omega (arith, v .cutting .long)) refl (rw (v .share)) refl;
     }
 
 returns : tie.Need-returns Inv-loop μ-loop
 returns c =
     let x = c .before .before .args in
     let l = c .before .loop in
-    sym (overwrite-done (cutAfter (x .n) (x .d) (l .sum)) (l .xs) (l .i) (omega arith) refl) ∙ l .inv .done
+    carrying-all (piece (x .n) (x .d)) _+_ standing (x .xs .now) _ (l .xs) (l .sum) (l .i) (l .inv .cutting) (omega (arith, l .inv .cutting .long)) refl
+    ∙ sym (cut-pieces (x .n) (x .d) (x .xs .now))
 
 pub cut-spec : {M : Type 1} → statement M
 cut-spec =
     tie.close
     (tie.spec
     Inv-loop μ-loop loop-holds (λ c. omega arith) (λ c. omega arith) add-sum mul-share (λ c. omega arith) sub-xs (λ c. omega arith) (λ c. omega arith)
-    (λ c. omega arith) (λ c. omega arith) loop-again (λ c. c .before .loop .inv .long) returns)
+    (λ c. omega arith) (λ c. omega arith) loop-again (λ c. c .before .loop .inv .cutting .long) returns)
