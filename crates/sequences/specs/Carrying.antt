@@ -4,6 +4,7 @@
 --     carried-dry       where 0 makes 0, zeros at the end make zeros at the end
 --     Carrying          a loop that overwrites a list so: its first i elements are made, `rest` of what stands behind them is still to be read
 --     carrying-none, carrying-more, carrying-all      before its first turn, one turn, past the last element
+--     standing          the `rest` of a loop that reads what it overwrites
 use Prim.Native.Nat.{ℕ, zero, suc, _+_, _≤_, _<_}
 use mathlib.Core.Path.{_≡_, refl, sym, ap, _∙_}
 use mathlib.Core.List.{List, [], _∷_, _++_}
@@ -28,6 +29,9 @@ module _ (out on : ℕ → ℕ → ℕ) (none : (c : ℕ) → out c 0 ≡ 0) whe
   pub carried-dry : (c : ℕ) (xs : List ℕ) (k : ℕ) → carried out on c (xs ++ replicate k 0) ≡ carried out on c xs ++ replicate k 0
   carried-dry c [] k = all-dry c k
   carried-dry c (x ∷ xs) k = ap (λ (l : List ℕ). out c x ∷ l) (carried-dry (on c x) xs k)
+
+abbrev pub standing : ℕ → List ℕ → List ℕ
+standing i xs = xs
 
 pub record Carrying (out on : ℕ → ℕ → ℕ) (rest : ℕ → List ℕ → List ℕ) (room made : List ℕ) (q : List ℕ) (c i : ℕ) : Type 0 where
   pub up : i ≤ length room

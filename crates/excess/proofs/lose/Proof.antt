@@ -1,16 +1,12 @@
 -- `excess::lose` meets its contract: a loop that puts each interval's excess in the place of its rain, with what is unfilled carried.
-use Prim.Native.Nat.{ℕ, _-_}
+use Prim.Native.Nat.{_-_}
 use mathlib.Core.Path.{refl}
-use mathlib.Core.List.{List}
 use native.Mathlib.Omega.{arith}
 use lib.ListN.{length}
+use Rattle.sequences.specs.Carrying.{standing}
 use Rattle.excess.specs.Losses.{Losing, losing-none, losing-more, losing-all}
 use Rattle.excess.proofs.lose.Statement.{statement}
 use Rattle.excess.proofs.lose.Tie as tie
-
--- the rain to come is what stands there
-abbrev standing : ℕ → List ℕ → List ℕ
-standing i rain = rain
 
 abbrev Inv-loop : tie.InvT-loop
 Inv-loop rain₀ loss unfilled₀ i₀ rain unfilled i = Losing loss standing rain₀ rain (unfilled .0) i

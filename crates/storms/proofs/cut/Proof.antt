@@ -7,17 +7,13 @@ use native.Mathlib.Numerals.{add-one}
 use native.Mathlib.Omega.{arith}
 use lib.ListN.{length, take, drop, getD, set, length-set}
 use lib.Seq.{drop-set-lt}
-use Rattle.sequences.specs.Carrying.{carried, Carrying, carrying-none, carrying-more, carrying-all}
+use Rattle.sequences.specs.Carrying.{carried, standing, Carrying, carrying-none, carrying-more, carrying-all}
 use Rattle.sequences.specs.Sums.{sumOf-drop}
 use Rattle.sequences.specs.Cuts.{piece, cut-rises, cut-pieces}
 use Rattle.meaning.specs.Water.{sumOf}
 use Rattle.storms.specs.Rains.{share-fits}
 use Rattle.storms.proofs.cut.Statement.{statement}
 use Rattle.storms.proofs.cut.Tie as tie
-
--- what is still to be cut is what stands there
-abbrev standing : ℕ → List ℕ → List ℕ
-standing i xs = xs
 
 record Inv (n d : ℕ) (xs₀ xs : List ℕ) (sum before i : ℕ) : Type 0 where
   left : sum + sumOf (drop i xs) ≡ sumOf xs₀
