@@ -1,5 +1,5 @@
 #!/bin/sh
-# Builds the deck writer, the pair checker and the counter of losses into target/second.
+# Builds the deck writer, the pair checker and the counters of losses and ratios into target/second.
 set -eu
 root=$(CDPATH= cd -- "$(dirname -- "$0")/.." && pwd)
 out=$root/target/second
@@ -11,4 +11,6 @@ $cc $flags -o "$out/decks" "$root/second/decks.c" "$root/second/decks_net.c" \
 if [ -f "$root/second/check-pairs.c" ]; then
     $cc $flags -o "$out/check-pairs" "$root/second/check-pairs.c"
 fi
-$cc $flags -o "$out/losses" "$root/second/losses.c" "$root/second/cards.c"
+for counter in losses ratios; do
+    $cc $flags -o "$out/$counter" "$root/second/$counter.c" "$root/second/cards.c" "$root/second/bundle.c"
+done

@@ -1,7 +1,8 @@
 /* Checks the listings of a bundle of pairs (standard input: each listing
-   followed by a line of two hyphens).  Both decks of a pair draw one network:
-   when one is accepted, the other is accepted with the same lines in some
-   order and the same last line, or it is refused with number 11. */
+   followed by a line of two hyphens).  Both decks of a pair draw one network
+   under the same ratios: when one is accepted, the other is accepted with the
+   same last line and, ratio by ratio, the same lines in some order, or it is
+   refused with number 11. */
 #include <stdio.h>
 #include <stdlib.h>
 #include <string.h>
@@ -11,6 +12,8 @@ typedef struct {
     size_t n, room;
     char **line;
     size_t lines, slots;
+    size_t blocks;                                 /* of an accepted deck */
+    int ratios;                                    /* whether it has lines of ratios */
 } Listing;
 
 static void fail(const char *why)
@@ -68,8 +71,30 @@ static int read_listing(Listing *l)
     return 1;
 }
 
+/* Whether a line names a ratio: a block of that name has more behind it. */
+static int names_ratio(const char *line)
+{
+    unsigned whole, part;
+    int used = 0;
+    return sscanf(line, "RATIO %1u.%2u%n", &whole, &part, &used) == 2 && line[used] == 0 && used == 10;
+}
+
+/* The lines of each ratio stand behind one that names it, or there are no such
+   lines at all. */
+static int well_formed(Listing *l)
+{
+    size_t k, group = l->blocks + 1;
+    l->ratios = l->lines != group;
+    if (!l->ratios)
+        return 1;
+    for (k = 0; k + 1 < l->lines; k += group)
+        if (!names_ratio(l->line[k]))
+            return 0;
+    return k + 1 == l->lines;
+}
+
 /* 0 accepted, else the number of the refusal */
-static int refusal(const Listing *l)
+static int refusal(Listing *l)
 {
     int number, line, used = 0;
     unsigned blocks;
@@ -77,8 +102,11 @@ static int refusal(const Listing *l)
         && l->line[0][used] == 0)
         return number;
     if (l->lines < 2 || sscanf(l->line[l->lines - 1], "END %u%n", &blocks, &used) != 1
-        || l->line[l->lines - 1][used] != 0 || blocks != l->lines - 1)
+        || l->line[l->lines - 1][used] != 0)
         fail("a listing that is neither a refusal nor closed by its block count");
+    l->blocks = blocks;
+    if (!well_formed(l))
+        fail("a listing that does not have each block once under each ratio");
     return 0;
 }
 
@@ -87,13 +115,21 @@ static int by_text(const void *a, const void *b)
     return strcmp(*(char *const *)a, *(char *const *)b);
 }
 
+/* Puts the lines of each ratio in order; those that name one stay. */
+static void sort_blocks(Listing *l)
+{
+    size_t k = l->ratios;
+    for (; k + 1 < l->lines; k += l->blocks + 1)
+        qsort(l->line + k, l->blocks, sizeof *l->line, by_text);
+}
+
 static int same(Listing *a, Listing *b)
 {
     size_t i;
     if (a->lines != b->lines || strcmp(a->line[a->lines - 1], b->line[b->lines - 1]) != 0)
         return 0;
-    qsort(a->line, a->lines - 1, sizeof *a->line, by_text);
-    qsort(b->line, b->lines - 1, sizeof *b->line, by_text);
+    sort_blocks(a);
+    sort_blocks(b);
     for (i = 0; i + 1 < a->lines; i++)
         if (strcmp(a->line[i], b->line[i]) != 0)
             return 0;
@@ -103,7 +139,7 @@ static int same(Listing *a, Listing *b)
 int main(void)
 {
     static Listing a, b;
-    unsigned long pairs = 0, both = 0, deep = 0, neither = 0, moved = 0, bad = 0;
+    unsigned long pairs = 0, both = 0, ratios = 0, deep = 0, neither = 0, moved = 0, bad = 0;
     while (read_listing(&a)) {
         if (!read_listing(&b))
             fail("an odd number of listings");
@@ -117,6 +153,7 @@ int main(void)
             moved += differs != 0;
             if (same(&a, &b)) {
                 both++;
+                ratios += a.ratios != 0;
             } else {
                 bad++;
                 printf("pair %lu: both accepted, listings differ\n", pairs);
@@ -132,7 +169,7 @@ int main(void)
             neither++;
         }
     }
-    printf("pairs %lu: both accepted %lu (in another order of lines %lu), one refused with 11 %lu, "
-           "neither accepted %lu, violations %lu\n", pairs, both, moved, deep, neither, bad);
+    printf("pairs %lu: both accepted %lu (in another order of lines %lu, under ratios %lu), one refused with 11 %lu, "
+           "neither accepted %lu, violations %lu\n", pairs, both, moved, ratios, deep, neither, bad);
     return bad != 0 || pairs == 0;
 }

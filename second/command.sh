@@ -155,6 +155,10 @@ quote 3 1 'foreign byte in column 4' 'ID ???' 'ID \0033\0001\0002\n'
 quote 3 1 'foreign byte in column 5' 'ID ??' 'ID ?\0177\n'
 quote 3 1 'line of 82 bytes, over 80' "ID$(printf %.78s "$eighty")" "ID${eighty}A\n"
 quote 4 1 'unknown record or control' "XX$(printf %.78s "$eighty")" "XX$(printf %.78s "$eighty")\r\n"
+quote 5 4 'JR out of place, or a second JR' 'JR X' '*FREE\nIT 60,,,4\nJR PREC,1\nJR X\n'
+quote 5 1 'JR out of place, or a second JR' 'JR' 'JR\n'
+quote 6 3 'another word than PREC on JR, a malformed ratio, or more than nine' 'JR FLOW,1' '*FREE\nIT 60,,,4\nJR FLOW,1\n'
+quote 7 3 'a ratio outside 0.01 to 9.99, or no ratio' 'JR PREC' '*FREE\nIT 60,,,4\nJR PREC\n'
 quote 9 6 'wrong set of records in the block of line 4' 'KK B' '*FREE\nIT 60,,,4\nKM\nKK A\nBA 1\nKK B\nZZ\n'
 quote 18 9 'a storm total above 0 with a pattern of zeros in the block of line 3' 'KK B' '*FREE\nIT 60,,,4\nKK A\nBA 1\nPB 1\nPI\nLU\nUI 1\nKK B\n'
 quote 12 9 'K, X and N do not suit the interval in the block of line 6' 'ZZ end' \
@@ -335,6 +339,13 @@ while IFS= read -r deck; do
     "$hec1" "$deck" >"$scratch/got" 2>"$scratch/err" </dev/null
     same "$deck" "${deck%.hc1}.listing" "$scratch/got"
 done <"$scratch/examples"
+
+# the five storms in one run are the five decks' listings joined, each behind its ratio, with the block count once
+cat examples/nine-acre-pond/storm-?.listing | grep -v '^END ' >"$scratch/expected"
+"$hec1" examples/nine-acre-pond/five-storms.hc1 | grep -v '^RATIO \|^END ' >"$scratch/got"
+same 'five storms in one run' "$scratch/expected" "$scratch/got"
+sed -n '/five-storms.hc1$/,/ END /p' README.md | sed '1d; s/^    //' >"$scratch/got"
+same 'the listing that README.md opens with' examples/nine-acre-pond/five-storms.listing "$scratch/got"
 
 # ---- how the program is built, with a stand-in for the kit that counts its runs
 

@@ -2,7 +2,8 @@
 # compare.sh [--program PROGRAM] [SEED [BUNDLE [CASES [PAIRS]]]]
 # Runs the proved programs and the second program on the same decks and compares what they print, byte by byte.
 # By default 20,000 decks of all sorts, 2,000 cases with rooms of all sizes, 2,000 pairs of decks that draw one
-# network (which must also answer as such), and a few decks, one at a time, on both sides of 60,000 bytes.
+# network (which must also answer as such), and a few decks, one at a time, on both sides of 60,000 bytes, one of them
+# with the most blocks and ratios that there can be.
 # Fails too when a refusal is missing: one that depends on rooms in the cases, any other in the bundle.
 # The last line is 'N passed, M failed', where each deck, case and pair counts as one; the exit status agrees with it.
 #
@@ -149,6 +150,8 @@ single() {
 }
 "$decks" big "$seed" lists >"$work/decks" || die "the deck writer failed"
 for bytes in 59999 60000 60001 65536 65537 200000; do single "$bytes"; done
+"$decks" big "$seed" ratios >"$work/decks" || die "the deck writer failed"
+for bytes in 60000 60001; do single "$bytes"; done
 : >"$work/decks"
 single 0
 

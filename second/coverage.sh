@@ -5,7 +5,10 @@
 # Fails when a refusal is missing, one that depends on rooms in the cases, any
 # other in the bundle, when the bundle's accepted decks lack a way in which an
 # initial loss is filled or do not tell a wrong rule of loss from the right one,
-# when a sound or a long deck is refused, or when a pair is violated.
+# when they lack a sort of JR or do not tell a wrong rule of ratios from the right
+# one, when none of its refused decks depends on the first or on the last ratio
+# being looked at, when a sound or a long deck is refused, or when a pair is
+# violated.
 set -u
 root=$(CDPATH= cd -- "$(dirname -- "$0")/.." && pwd)
 . "$root/second/kit.sh" || exit 2
@@ -71,6 +74,7 @@ count() {
 "$hec1" --bundle < "$work/decks" > "$work/out" || failed=$((failed + 1))
 check count bundle "$(deck_refusals)" < "$work/out"
 check "$root/target/second/losses" < "$work/decks"
+check "$root/target/second/ratios" < "$work/decks"
 
 "$decks" cases "$seed" "$cases" > "$work/decks"
 "$hec1" --cases < "$work/decks" > "$work/out" || failed=$((failed + 1))
@@ -86,7 +90,7 @@ check count pairs "11" < "$work/out"
 check "$root/target/second/check-pairs" < "$work/out"
 
 # the long decks that are written for timing
-for kind in lists blocks storms routing; do
+for kind in lists blocks storms ratios routing; do
     "$decks" big "$seed" "$kind" | "$hec1" > "$work/out" || failed=$((failed + 1))
     echo "long     $kind: $(tail -n 1 "$work/out")"
     check grep -q '^END ' "$work/out"

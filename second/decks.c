@@ -1,5 +1,5 @@
 /* The deck writer: seeded test decks for the engine of document 01, with the
-   storm totals and the losses of document 02, CR 1 and CR 2. */
+   storm totals, losses and ratios of document 02, CR 1 to CR 3. */
 #include <stdio.h>
 #include <stdlib.h>
 #include <string.h>
@@ -11,11 +11,14 @@ static Net net;
 static Deck deck = { lines, 0, 0, 0, 0, 0, 0, padding, tailing };
 static Style style;
 static int fill_to;                                /* 0, or the length a deck is to have */
+enum { JR_CHANCE = 33 };                           /* decks with a JR, in a hundred */
+static int jr_chance = JR_CHANCE;
 
 static const char help[] =
     "decks bundle SEED COUNT          COUNT decks, each behind its length (4 bytes, little-endian)\n"
-    "decks cases SEED COUNT           COUNT cases: five 4-byte little-endian numbers (named block, work\n"
-    "                                 words, ordinate words, record bytes, deck length) and the deck\n"
+    "decks cases SEED COUNT           COUNT cases: six 4-byte little-endian numbers (named block, named\n"
+    "                                 ratio, work words, ordinate words, record bytes, deck length) and the\n"
+    "                                 deck\n"
     "decks pairs SEED COUNT           COUNT pairs of decks, as in a bundle; each pair draws one network\n"
     "                                 in two orders and two manners of writing\n"
     "decks sound SEED COUNT           COUNT lawful decks, as in a bundle\n"
@@ -24,6 +27,8 @@ static const char help[] =
     "decks big SEED lists [BYTES]                       one long deck of PI, UI and QI lines, bare\n"
     "decks big SEED blocks [BLOCKS [NQ [UNITS [RAIN]]]] one deck of runoff blocks and confluences, bare\n"
     "decks big SEED storms [BLOCKS [NQ [UNITS [RAIN]]]] the same with a total (PB) in each runoff block, bare;\n"
+    "                                 fewer blocks where 60,000 bytes would be passed\n"
+    "decks big SEED ratios [RATIOS [BLOCKS [NQ [UNITS [RAIN]]]]] the deck of blocks with 1 to 9 ratios (JR), bare;\n"
     "                                 fewer blocks where 60,000 bytes would be passed\n"
     "decks big SEED routing [BLOCKS [NQ [STEPS]]]       one deck of routings, bare\n"
     "decks --help                     this text\n"
@@ -51,6 +56,7 @@ static void it_values(int top)
 {
     net.m = pick_minutes();
     net.nq = pick_nq(top);
+    pick_ratios(&net, jr_chance);
 }
 
 /* A lawful deck in `deck`, its network in `net`.  small: for the cases. */
@@ -86,7 +92,10 @@ static void sound_once(int small)
     } else if (r < 945) {                          /* at and below the flow limit */
         it_values(10);
         size = between(1, 10);
-        net_limit(&net, size, pct(60) ? 0 : -1);
+        if (net.njr > 0 && pct(60))
+            net_ratio_limit(&net, 0);
+        else
+            net_limit(&net, size, pct(60) ? 0 : -1);
     } else if (r < 965) {                          /* full lists */
         it_values(300);
         if (pct(60)) net.nq = LIMIT_NQ;
@@ -94,6 +103,7 @@ static void sound_once(int small)
     } else if (r < 990) {                          /* long routings of high flows */
         net.m = pct(50) ? 1440 : between(1, 60);
         net.nq = pick_nq(40);
+        pick_ratios(&net, jr_chance);
         net_random(&net, between(4, 20), 0, 40, FLOW_SHARE, 70);
     } else {
         it_values(300);
@@ -129,7 +139,7 @@ static int pick_refusal(void)
 {
     /* 2 and 14 make long decks, so they come less often */
     static const int usual[] = {
-        3, 3, 4, 4, 5, 5, 5, 6, 6, 6, 7, 7, 7, 8, 8, 9, 9, 9, 10, 10, 11, 11, 12, 12, 13, 13, 15, 15, 16, 18, 18, 18
+        3, 3, 4, 4, 5, 5, 5, 6, 6, 6, 7, 7, 7, 8, 8, 9, 9, 9, 10, 10, 11, 11, 12, 12, 13, 13, 13, 15, 15, 16, 18, 18, 18
     };
     int r = rnd(1000);
     if (r < 8) return 2;
@@ -140,12 +150,13 @@ static int pick_refusal(void)
 static void base_for(int number)
 {
     fill_to = 0;
-    if (number == 14 || (number == 18 && pct(4))) {   /* a 201st block needs many before it */
+    jr_chance = number == 13 ? 65 : JR_CHANCE;     /* flows alone depend on the ratio */
+    if (number == 14 || (number == 13 && pct(8)) || (number == 18 && pct(4))) {   /* a 201st block needs many before it */
         style_random(&style);
         style.pkm /= 4;
         style.pblank /= 4;
         it_values(12);
-        net_random(&net, between(LIMIT_BLOCKS - 5, LIMIT_BLOCKS), 0, 3, FLOW_SHARE, 40);
+        net_random(&net, between(LIMIT_BLOCKS - 5, LIMIT_BLOCKS - (number == 13)), 0, 3, FLOW_SHARE, 40);
         deck_write(&deck, &net, &style);
     } else if (number == 11 && pct(40)) {
         style_random(&style);
@@ -157,6 +168,7 @@ static void base_for(int number)
             sound(0);
         } while (net.nb > 60 && !pct(25));
     }
+    jr_chance = JR_CHANCE;
 }
 
 static int bundle_deck(uint64_t seed, int index)
@@ -185,11 +197,17 @@ static int bundle_deck(uint64_t seed, int index)
             damage(&deck, &net, &style, b);
         return finish();
     }
-    if (r < 850) {                                 /* flows without a rein */
+    if (r < 860) {                                 /* flows without a rein */
         int size = between(2, 10);
         style_random(&style);
         it_values(12);
-        if (pct(40))
+        if (pct(50))                               /* at and about the limit by a ratio's rounding */
+            pick_ratios(&net, 100);
+        if (net.njr > 0 && pct(30))
+            net_ratio_limit(&net, pct(75));
+        else if (net.njr > 0 && pct(50))
+            net_drip(&net);
+        else if (pct(40))
             net_limit(&net, size, pct(50) ? 1 : 1000);
         else
             net_random(&net, between(2, 16), 0, 12, FLOW_WILD, 25);
@@ -260,11 +278,14 @@ static void cases(uint64_t seed, int count)
         n = deck_bytes(&deck, bytes);
         if (r == 13)
             n = degenerate(bytes);
-        int exact = 32 * net.nb;
-        uint32_t named, work, ord, rec;
+        int ratios = net.njr > 0 ? net.njr : 1, exact = 32 * net.nb * ratios;
+        uint32_t named, ratio, work, ord, rec;
         r = rnd(100);
         named = r < 35 ? 0u : r < 80 ? (uint32_t)between(1, net.nb) : r < 88 ? (uint32_t)net.nb
               : r < 95 ? (uint32_t)net.nb + 1 : far[rnd(7)];
+        r = rnd(100);
+        ratio = r < 35 ? 0u : r < 55 ? 1u : r < 80 ? (uint32_t)between(1, ratios) : r < 90 ? (uint32_t)ratios
+              : r < 95 ? (uint32_t)ratios + 1 : r < 97 ? 10u : far[rnd(7)];
         r = rnd(100);
         work = r < 60 ? 6000u : r < 70 ? 6001u : r < 88 ? (uint32_t)between(6000, 12000) : r < 94 ? 5999u
              : r < 96 ? 0u : (uint32_t)rnd(6000);
@@ -272,9 +293,12 @@ static void cases(uint64_t seed, int count)
         ord = r < 50 ? (uint32_t)net.nq : r < 65 ? (uint32_t)net.nq + 1 : r < 88 ? (uint32_t)between(net.nq, 600)
             : r < 95 ? (uint32_t)net.nq - 1 : r < 97 ? 0u : (uint32_t)rnd(net.nq);
         r = rnd(100);
-        rec = r < 50 ? (uint32_t)exact : r < 62 ? (uint32_t)exact + 1 : r < 88 ? (uint32_t)between(exact, 16000)
-            : r < 94 ? (uint32_t)exact - 1 : r < 96 ? 0u : (uint32_t)rnd(exact);
+        rec = r < 50 ? (uint32_t)exact : r < 62 ? (uint32_t)exact + 1
+            : r < 84 ? (uint32_t)between(exact, exact + (pct(80) ? 2000 : 72000 - exact))
+            : r < 90 ? (uint32_t)exact - 1 : r < 94 ? (uint32_t)(32 * net.nb)   /* enough for one ratio */
+            : r < 96 ? 0u : (uint32_t)rnd(exact);
         number4(named);
+        number4(ratio);
         number4(work);
         number4(ord);
         number4(rec);
@@ -457,13 +481,30 @@ static void big_lists(int size)
     say("ZZ\n");
 }
 
-/* storms: each runoff block has a total too */
-static void big_blocks(int count, int nq, int units, int rain, int storms)
+/* Ratios that leave each interval with rain its excess; 1.00 is not among
+   them, since it may well be cheaper than others. */
+static void say_ratios(int count)
+{
+    static const int ratio[LIMIT_RATIOS] = { 99, 98, 97, 96, 101, 102, 103, 104, 105 };
+    int i;
+    say("JRPREC");
+    for (i = 0; i < count; i++) {
+        char t[16];
+        snprintf(t, sizeof t, ",%d.%02d", ratio[i] / 100, ratio[i] % 100);
+        say(t);
+    }
+    say("\n");
+}
+
+/* storms: each runoff block has a total too; ratios: so many on a JR */
+static void big_blocks(int count, int nq, int units, int rain, int storms, int ratios)
 {
     int held = 0, left = count, v;
     char t[64];
     snprintf(t, sizeof t, "*FREE\nIT60,,,%d\n", nq);
     say(t);
+    if (ratios > 0)
+        say_ratios(ratios);
     /* excess is 0.05 or 1.05 inch, unit ordinates 1 to 3: far below the limit;
        with a total of 7 to 9 inches it is what each share leaves above 0.01, so
        that no interval with rain stays without excess there either */
@@ -503,13 +544,14 @@ static void big_blocks(int count, int nq, int units, int rain, int storms)
     say("ZZ\n");
 }
 
-static void big_storms(uint64_t seed, int count, int nq, int units, int rain)
+/* The values of the deck of blocks, and fewer blocks where more would be too long. */
+static void big_fitting(uint64_t seed, int count, int nq, int units, int rain, int storms, int ratios)
 {
     do {
         used = 0;
         name_number = 0;
-        rng_seed(seed, (uint64_t)3 << 40);         /* the values of the deck without totals */
-        big_blocks(count, nq, units, rain, 1);
+        rng_seed(seed, (uint64_t)3 << 40);
+        big_blocks(count, nq, units, rain, storms, ratios);
     } while (used > LIMIT_BYTES && --count > 0);
 }
 
@@ -574,22 +616,29 @@ int main(int argc, char **argv)
         return usage();
     const char *what = argv[1];
     if (!strcmp(what, "big")) {
-        int a[4], i, given = argc - 4;
+        int a[4], i, given = argc - 4, ratios = 0;
         const char *kind = argv[3];
         rng_seed(seed, (uint64_t)3 << 40);
+        if (!strcmp(kind, "ratios")) {             /* the first word is the ratios', the rest are those of blocks */
+            ratios = given > 0 ? whole(argv[4], 1, LIMIT_RATIOS, "RATIOS") : LIMIT_RATIOS;
+            if (given > 0) {
+                argv++;
+                given--;
+            }
+        }
         if (given > 4)
             return usage();
         for (i = 0; i < given; i++)
             a[i] = whole(argv[4 + i], 0, LIMIT_BYTES, "a size");
         if (!strcmp(kind, "lists"))
             big_lists(given > 0 ? a[0] : LIMIT_BYTES);
-        else if (!strcmp(kind, "blocks") || !strcmp(kind, "storms")) {
+        else if (!strcmp(kind, "blocks") || !strcmp(kind, "storms") || ratios > 0) {
             int count = given > 0 ? a[0] : LIMIT_BLOCKS, nq = given > 1 ? a[1] : LIMIT_NQ;
             int units = given > 2 ? a[2] : LIMIT_UNITS, rain = given > 3 ? a[3] : nq < 10 ? nq : 10;
-            if (!strcmp(kind, "storms"))
-                big_storms(seed, count, nq, units, rain);
+            if (!strcmp(kind, "blocks"))
+                big_blocks(count, nq, units, rain, 0, 0);
             else
-                big_blocks(count, nq, units, rain, 0);
+                big_fitting(seed, count, nq, units, rain, ratios == 0, ratios);
         } else if (!strcmp(kind, "routing"))
             big_routing(given > 0 ? a[0] : LIMIT_BLOCKS, given > 1 ? a[1] : LIMIT_NQ, given > 2 ? a[2] : 50);
         else

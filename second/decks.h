@@ -1,5 +1,5 @@
 /* Shared types of the deck writer.  All limits and records follow document 01
-   and document 02, CR 1. */
+   and document 02, CR 1 and CR 3. */
 #ifndef DECKS_H
 #define DECKS_H
 
@@ -16,7 +16,9 @@ enum {
     LIMIT_PB = 1000000,       /* 100 inches */
     LIMIT_UI = 9999999,       /* 99,999.99 in hundredths */
     LIMIT_QI = 10000000,      /* 100,000 cfs in hundredths */
-    LIMIT_BA = 999999
+    LIMIT_BA = 999999,
+    LIMIT_RATIOS = 9,
+    LIMIT_RATIO = 999         /* 9.99 in hundredths */
 };
 #define LIMIT_FLOW INT64_C(6000000000000)
 
@@ -44,6 +46,7 @@ typedef struct {
 
 typedef struct {
     int m, nq, nb;
+    int njr, jr[LIMIT_RATIOS];     /* no JR where njr is 0 */
     Block b[LIMIT_BLOCKS + 2];
     int order[LIMIT_BLOCKS + 2];   /* deck order of the blocks */
 } Net;
@@ -53,8 +56,12 @@ enum { RM_INSIDE, RM_LOW, RM_HIGH, RM_LAG, RM_UNDER, RM_OVER };
 
 int pick_minutes(void);
 int pick_nq(int top);
+void pick_ratios(Net *n, int chance);
+int top_ratio(const Net *n);       /* the greatest, 100 without JR */
 void net_random(Net *n, int blocks, int hold, int maxlist, int flow, int routed);
 void net_limit(Net *n, int leaves, int excess);
+void net_ratio_limit(Net *n, int over);
+void net_drip(Net *n);
 void net_caterpillar(Net *n, int depth, int maxlist);
 void net_names(Net *n, int distinct);
 void net_order(Net *n);            /* deck order from the branches */
@@ -66,7 +73,7 @@ int rm_pick(int m, int how, int *rn, int *rk, int *rx);
 
 /* ---- lines and decks ---- */
 enum {
-    T_ID, T_IT, T_KK, T_KM, T_BA, T_PB, T_PI, T_LU, T_UI, T_QI, T_HC, T_RM, T_ZZ,
+    T_ID, T_IT, T_JR, T_KK, T_KM, T_BA, T_PB, T_PI, T_LU, T_UI, T_QI, T_HC, T_RM, T_ZZ,
     T_CONTROL, T_BLANK, T_OTHER
 };
 enum { FIXED, FREE };

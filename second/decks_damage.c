@@ -1,5 +1,5 @@
 /* Damages aimed at one refusal each (document 01, the table of refusals, and
-   document 02, CR 1), blind mutations, and decks that hardly are decks. */
+   document 02, CR 1 and CR 3), blind mutations, and decks that hardly are decks. */
 #include <stdio.h>
 #include <string.h>
 #include "decks.h"
@@ -109,6 +109,7 @@ static void plain_record(Line *l, const Style *s, const Net *n)
         break;
     }
     case T_KK: line_name(l, (const unsigned char *)"EXTRA", 5, 10); break;
+    case T_JR: put(l, s, 2, "PREC", pct(50) ? "1.00" : "1.5", ""); break;
     case T_ID: line_text(l, "ID LATE"); break;
     case T_ZZ: line_text(l, "ZZ"); break;
     case T_KM: line_text(l, "KM NOTE"); break;
@@ -212,7 +213,7 @@ static int damage4(Deck *d)
         "XX 1", "KO 5", "IO 1 2", "JD 1", "BF 1 2", "MA 1", "kk UP", "it 60", "zz", "K", "Z", "*", "**",
         "*FREE X", "*FREEX", "*FIXED", "*FREE,", "*free", "*Fix", "*FI", "*FR", "* FREE", "*F REE", "*LIST",
         "*DIAGRAM", "*FREE *FIX", " KK UP", " ZZ", "  ZZ", " *FIX", "K K", ",", "1", ".", "KL", "ZK", "Kk",
-        "IN", "RL 0", "QO 1", "QP 1", "US 1", "UC 1", "PR 1", "PT 1", "PC .5", "pb 1", "P", "DR", "-", "X", "KN NOTE", "/*"
+        "IN", "RL 0", "QO 1", "QP 1", "US 1", "UC 1", "PR 1", "PT 1", "PC .5", "pb 1", "jr PREC,1", "JP 1", "J", "P", "DR", "-", "X", "KN NOTE", "/*"
     };
     int top = last_line_of_deck(d), at;
     if (d->nl == 0)
@@ -252,6 +253,54 @@ static int damage4(Deck *d)
     }
 }
 
+/* ---- JR ---- */
+
+/* The line of the JR.  Where there is none, one is put in behind IT: it says
+   what holds without it, or another ratio.  -1: no place for it. */
+static int ratio_line_of(Deck *d, const Style *s)
+{
+    int at = first_tag(d, T_JR), it = first_tag(d, T_IT), kk = first_tag(d, T_KK);
+    if (at >= 0 || it < 0)
+        return at;
+    at = kk > it ? between(it + 1, kk) : it + 1;
+    Line *l = insert(d, at, T_JR);
+    put(l, s, pct(50) ? 2 : 3, "PREC", "1.00", "0.5");
+    return at;
+}
+
+/* A JR whose fields are sound or not. */
+static void any_ratio_line(Line *l, const Style *s)
+{
+    static const char *const bad[] = { "JR", "JR FLOW,1", "JR PREC", "JR PREC,X", "JR PREC,0", "JR PREC,10.00", "JR 1.00", "JR prec,1" };
+    if (pct(60))
+        put(l, s, pct(50) ? 2 : 3, "PREC", "1.00", "0.5");
+    else
+        line_text(l, bad[rnd(COUNT(bad))]);
+}
+
+/* 5: before IT, after the first KK, twice. */
+static int misplaced_ratios(Deck *d, const Style *s)
+{
+    int it = first_tag(d, T_IT), kk = first_tag(d, T_KK), zz = last_line_of_deck(d), at;
+    switch (rnd(4)) {
+    case 0:                                        /* before IT, its own or one more */
+        any_ratio_line(insert(d, rnd(it + 1), T_JR), s);
+        return 1;
+    case 1:                                        /* after the first KK */
+        if (kk < 0 || zz <= kk) return 0;
+        at = first_tag(d, T_JR);
+        any_ratio_line(insert(d, between(kk + 1, zz), T_JR), s);
+        if (at >= 0 && pct(50)) drop(d, at, 1);
+        return 1;
+    default:                                       /* twice */
+        at = ratio_line_of(d, s);
+        kk = first_tag(d, T_KK);
+        if (at < 0 || kk < at) return 0;
+        any_ratio_line(insert(d, between(at + 1, kk), T_JR), s);
+        return 1;
+    }
+}
+
 /* ---- 5: records out of place ---- */
 
 static int damage5(Deck *d, const Net *n, const Style *s)
@@ -262,6 +311,8 @@ static int damage5(Deck *d, const Net *n, const Style *s)
     if (it < 0)
         return 0;
     Line *l;
+    if (pct(25))
+        return misplaced_ratios(d, s);
     switch (rnd(10)) {
     case 0:                                        /* ID after IT */
         l = insert(d, between(it + 1, zz), T_ID);
@@ -323,7 +374,8 @@ static const struct { int tag, field; const char *text; } too_fine[] = {
     { T_LU, 0, ".10000" }, { T_LU, 1, "0.10000" }, { T_LU, 2, "0.000" }, { T_LU, 2, ".000" }, { T_LU, 0, ".00000" },
     { T_UI, -1, "1.000" }, { T_UI, -1, "0.001" }, { T_QI, -1, "1.000" }, { T_QI, -1, ".125" }, { T_QI, -1, "0.000" },
     { T_HC, 0, "2.0" }, { T_HC, 0, "2.00" }, { T_RM, 0, "1.0" }, { T_RM, 1, "1.000" }, { T_RM, 2, ".200" },
-    { T_RM, 2, "0.200" }, { T_RM, 2, ".000" }
+    { T_RM, 2, "0.200" }, { T_RM, 2, ".000" },
+    { T_JR, -1, "1.000" }, { T_JR, -1, "0.005" }, { T_JR, -1, "9.995" }, { T_JR, -1, ".001" }
 };
 
 static const char *const misshapen[] = {
@@ -358,12 +410,79 @@ static int set_field(Line *l, const Style *s, int k, const char *text)
     return 0;
 }
 
+/* 6 on JR: the word, or a ratio that is no number of two places. */
+static int bad_ratios(Deck *d, const Style *s)
+{
+    static const char *const words[] = {
+        "", "prec", "Prec", "FLOW", "PRECX", "PREC1", "PRE", "1", "1.00", "0", "PREC.", "RAIN", "CERP", "-PREC", "'PREC'"
+    };
+    static const char *const numbers[] = {
+        "1.500", "9.995", "9.999", "0.005", ".000", "X", "1X", "PREC", "1.5.0", "1,5", "0000000001", "1234567890", "0.000000001", "1-"
+    };
+    int at = ratio_line_of(d, s), i, k;
+    if (at < 0)
+        return 0;
+    Line *l = &d->l[at];
+    k = between(1, l->nf > 1 ? l->nf - 1 : 1);
+    switch (rnd(7)) {
+    case 0: case 1:
+        return set_field(l, s, 0, words[rnd(COUNT(words))]);
+    case 2:                                        /* the word behind a ratio */
+        if (!set_field(l, s, 0, pct(50) ? "" : l->f[1])) return 0;
+        return set_field(l, s, 1, "PREC");
+    case 3: case 4: {
+        const char *t = numbers[rnd(COUNT(numbers))];
+        if (l->form == FREE && strchr(t, ',')) return 0;
+        return set_field(l, s, k, t);
+    }
+    case 5: {                                      /* a tenth ratio */
+        Line old = *l;
+        if (l->form != FREE) return 0;
+        for (i = 1; i < 11; i++)
+            strcpy(l->f[i], i < 10 && pct(10) ? "" : pct(50) ? "1" : ".5");
+        l->nf = 11;
+        touched = l;
+        if (line_compose(l, s)) return 1;
+        *l = old;
+        return 0;
+    }
+    default:                                       /* the word and a ratio */
+        if (!set_field(l, s, k, pct(50) ? "10" : "0")) return 0;
+        return set_field(l, s, 0, words[rnd(COUNT(words))]);
+    }
+}
+
+/* 7 on JR: no ratio, or one over its limits. */
+static int ratios_outside(Deck *d, const Style *s)
+{
+    static const char *const numbers[] = {
+        "0", "0.00", "-0", "", "10", "10.00", "-1", "-.01", "-9.99", "99.99", "+10.", "999", "9999999.99", "999999999"
+    };
+    int at = ratio_line_of(d, s), k;
+    if (at < 0)
+        return 0;
+    Line *l = &d->l[at];
+    if (pct(25)) {                                 /* the word alone */
+        l->nf = 1;
+        touched = l;
+        return line_compose(l, s);
+    }
+    if (pct(30)) {                                 /* a blank between ratios */
+        k = between(1, 8);
+        return set_field(l, s, k + 1, "1.25") && set_field(l, s, k, "");
+    }
+    k = pct(80) && l->nf > 1 ? between(1, l->nf - 1) : between(1, 9);
+    return set_field(l, s, k, numbers[rnd(COUNT(numbers))]);
+}
+
 static int damage6(Deck *d, const Style *s)
 {
     static const int data[] = { T_IT, T_BA, T_PB, T_PI, T_LU, T_UI, T_QI, T_HC, T_RM };
     static const int scant[] = { T_IT, T_BA, T_PB, T_PB, T_LU, T_HC, T_RM };
     int at, k, i;
     Line *l;
+    if (pct(22))
+        return bad_ratios(d, s);
     switch (rnd(8)) {
     case 0:
     case 1:                                        /* a misshapen number */
@@ -384,6 +503,7 @@ static int damage6(Deck *d, const Style *s)
         l = &d->l[at];
         k = too_fine[w].field;
         if (k < 0) k = l->nf > 0 ? rnd(l->nf) : rnd(10);
+        if (k == 0 && l->tag == T_JR) k = 1;
         return set_field(l, s, k, too_fine[w].text);
     }
     case 4:                                        /* a field that is not named */
@@ -456,6 +576,8 @@ static int damage7(Deck *d, const Style *s)
 {
     int w = rnd(COUNT(outside));
     int at = find_tag(d, outside[w].tag);
+    if (pct(20))
+        return ratios_outside(d, s);
     if (at < 0)
         return 0;
     Line *l = &d->l[at];
@@ -811,11 +933,81 @@ static int damage12(Deck *d, const Net *n, const Style *s)
     return 1;
 }
 
+/* A block that passes the flow limit under a ratio and all above it, and stays
+   under it below that: a hundred inches on the least unit ordinate that does.
+   The lines it took; under 0.01 no block can pass. */
+static int gate(Deck *d, int at, const Net *n, const Style *s, int ratio)
+{
+    char unit[16];
+    number_write(unit, LIMIT_QI / ratio + 1, 2, 8, 0);
+    storm_block(d, at, n, s, "1", "", unit, "");
+    put(insert(d, between(at + 1, at + 5), T_PB), s, 1, "100", "", "");
+    touched = &d->l[at];
+    return 6;
+}
+
+static int open_to(const Net *n, int floor)        /* the least ratio above a number, 0 if none is */
+{
+    int i, r = 0;
+    for (i = 0; i < n->njr; i++)
+        if (n->jr[i] > floor && (r == 0 || n->jr[i] < r)) r = n->jr[i];
+    return r;
+}
+
+/* 13 under some ratios alone, or under the ratios at different lines. */
+static int damage13_ratios(Deck *d, const Net *n, const Style *s)
+{
+    int low = open_to(n, 1), at = boundary(d, 1), later, zz, kk = 0, i, rn = 1, rk = 1, rx = 0;
+    char a[16], b[16], c[16];
+    if (low == 0 || first_tag(d, T_JR) < 0)
+        return 0;
+    int high = open_to(n, low);
+    if (high == 0) high = low;
+    while (pct(50) && open_to(n, high) > 0)
+        high = open_to(n, high);
+    zz = last_line_of_deck(d);
+    for (i = 0; i < zz; i++)
+        kk += d->l[i].tag == T_KK;
+    switch (kk >= 150 ? 0 : between(1, 5)) {
+    case 0:                                        /* closed by a 201st KK: 14 under the others */
+        if (kk > LIMIT_BLOCKS - 1) return 0;
+        rm_pick(n->m, RM_INSIDE, &rn, &rk, &rx);
+        number_write(a, rn, 0, 6, 0);
+        number_write(b, rk, 2, 6, 0);
+        number_write(c, rx, 2, 6, 0);
+        for (; kk < LIMIT_BLOCKS - 1; kk++)
+            zz += block_in(d, zz, T_RM, s, a, b, c);
+        zz += gate(d, zz, n, s, high);
+        plain_record(insert(d, zz, T_KK), s, n);
+        return 1;
+    case 1:                                        /* closed by ZZ: 15 under the others */
+        gate(d, zz, n, s, high);
+        return 1;
+    case 2:                                        /* refused at that line under every ratio that comes so far */
+        if (at < 0) return 0;
+        later = at + gate(d, at, n, s, high);
+        i = between(later, last_line_of_deck(d));
+        line_text(insert(d, i, T_OTHER), pct(50) ? "XX" : pct(50) ? "ID" : "HC 9");
+        return 1;
+    default:                                       /* the greater ones at an earlier line */
+        if (at < 0) return 0;
+        later = at + gate(d, at, n, s, high);
+        for (i = later; i < d->nl && (pct(60) || (d->l[i].tag != T_KK && d->l[i].tag != T_ZZ)); i++)
+            ;
+        i = closing_line(d, i);
+        if (i >= d->nl) i = last_line_of_deck(d);
+        gate(d, i, n, s, low);
+        return 1;
+    }
+}
+
 static int damage13(Deck *d, const Net *n, const Style *s)
 {
     int at = boundary(d, 1), i;
     if (at < 0)
         return 0;
+    if (n->njr > 0 && pct(55))
+        return damage13_ratios(d, n, s);
     if (pct(50)) {                                 /* confluence */
         static const char *const parts[][3] = {
             { "50000", "50000.01", "" }, { "100000", "0.01", "" }, { "99999.99", ".02", "" }, { "60000", "70000", "" },
@@ -1087,7 +1279,7 @@ int deck_mutate_lines(Deck *d)
 
 int bytes_mutate(unsigned char *b, int n)
 {
-    static const char likely[] = "0123456789.,,, +-KZIQPUBHRML*FX\n\n\r";
+    static const char likely[] = "0123456789.,,, +-KZIQPUBHRMLJC*FX\n\n\r";
     int at;
     if (n == 0)
         return 0;
@@ -1144,6 +1336,15 @@ static const struct { const char *text; int n; } scraps[] = {
     S("*FREE\nIT 60,,,4\nKK A\nBA 1\nPB .0001\nPI\nLU\nUI 1\nZZ"), S("*FREE\nIT 60,,,4\nKK A\nBA 1\nPB 100\nPI 0,0\nLU\nUI\nZZ"),
     S("*FREE\nIT 60,,,4\nKK A\nPI 1,2,4\nBA 1\nPB .0001\nLU\nUI 1\nZZ"), S("*FREE\nIT 60,,,4\nKK A\nBA 1\nPB 100,,,\nPI 20\nLU\nUI 1000\nZZ"),
     S("*FREE\nIT 60,,,4\nKK A\nBA 1\nPB 100\nPI 20\nLU\nUI 1000.01\nZZ"), S("IT    60                       4\nKK A\nBA     1\nPB  4.37\nPI     1       3\nLU\nUI     1\nZZ"),
+    S("JR PREC,1"), S("*FREE\nIT 60,,,4\nJR PREC,1"), S("*FREE\nIT 60,,,4\nJR PREC,1\nZZ"), S("*FREE\nIT 60,,,4\nJR\nZZ"),
+    S("*FREE\nIT 60,,,4\nJR PREC\nZZ"), S("*FREE\nIT 60,,,4\nJR PREC,,\nZZ"), S("*FREE\nIT 60,,,4\nJR PREC,1\nJR PREC,1\nZZ"),
+    S("*FREE\nIT 60,,,4\nJR ,PREC,1\nZZ"), S("*FREE\nIT 60,,,4\nJR PREC,1,,2\nZZ"), S("*FREE\nJR PREC,1\nIT 60,,,4\nZZ"),
+    S("*FREE\nIT 60,,,4\nKK A\nQI 1\nJR PREC,1\nZZ"), S("*FREE\nIT60,,,4\nJRPREC 1 2,9.99,,\nKKA\nQI1\nZZ"),
+    S("*FREE\nIT 60,,,4\nJR PREC .01 .02 .03 .04 .05 .06 .07 .08 .09\nKK A\nBA 1\nPI .0001,.0001,.0001,.0001\nLU\nUI 1\nZZ"),
+    S("IT    60                       4\n\nKM\nJR  PREC     .33      3.    +0.5\nKK A\nBA     1\nPI    .1     .07     .03\nLU\nUI     1\nZZ"),
+    S("*FREE\nIT 60,,,4\nJR PREC,2,3\nKK A\nBA 1\nPB 100\nPI 20\nLU\nUI 400\nKK B\nQI 1\nZZ"),
+    S("*FREE\nIT 60,,,4\nJR PREC,1,1.01\nKK A\nBA 1\nPB 100\nPI 20\nLU\nUI 1000\nKK B\nHC 2\nZZ"),
+    S("ID POND\n*FREE\nIT 60,,,4\nJR PREC,1.00\nKK UP\nBA 1.50\nPI 0.50,0.30,0.10\nLU 0.50,0.10\nUI 10,4\nKK RIV\nRM 1,1.00,0.20\nKK SIDE\nQI 1,2,2,1\nKK OUT\nHC 2\nZZ\n"),
     S("ID POND\n*FREE\nIT 60,,,4\nKK UP\nBA 1.50\nPI 0.50,0.30,0.10\nLU 0.50,0.10\nUI 10,4\nKK RIV\nRM 1,1.00,0.20\nKK SIDE\nQI 1,2,2,1\nKK OUT\nHC 2\nZZ\n")
 #undef S
 };

@@ -1,6 +1,7 @@
 /* Random networks: blocks, their values and the order in which they stand.
-   Every value keeps the limits of document 01 and of document 02, CR 1, unless
-   flows are to be wild; losses are aimed at the rule of document 02, CR 2. */
+   Every value keeps the limits of document 01 and of document 02, CR 1 and
+   CR 3, unless flows are to be wild; losses are aimed at the rule of document
+   02, CR 2, under one of the ratios. */
 #include <string.h>
 #include "decks.h"
 
@@ -62,6 +63,60 @@ int pick_nq(int top)
     case 2: return 300;
     default: return between(1, top);
     }
+}
+
+/* ---- ratios ---- */
+
+static int any_ratio(void)
+{
+    static const int usual[] = { 1, 5, 20, 25, 33, 50, 67, 75, 99, 100, 100, 101, 125, 150, 200, 333, 500, 998, 999 };
+    return pct(60) ? usual[rnd((int)(sizeof usual / sizeof usual[0]))] : between(1, LIMIT_RATIO);
+}
+
+static void sort_ratios(Net *n, int falling)
+{
+    int i, j;
+    for (i = 1; i < n->njr; i++)
+        for (j = i; j > 0 && (falling ? n->jr[j] > n->jr[j - 1] : n->jr[j] < n->jr[j - 1]); j--) {
+            int t = n->jr[j];
+            n->jr[j] = n->jr[j - 1];
+            n->jr[j - 1] = t;
+        }
+}
+
+/* A JR, so many times in a hundred: any ratios, equal, rising or falling ones,
+   neighbours, small ones, both limits. */
+void pick_ratios(Net *n, int chance)
+{
+    int i, how = rnd(9), one = any_ratio();
+    n->njr = 0;
+    if (!pct(chance))
+        return;
+    n->njr = pct(20) ? 1 : pct(20) ? LIMIT_RATIOS : between(2, LIMIT_RATIOS - 1);
+    for (i = 0; i < n->njr; i++)
+        switch (how) {
+        case 0: n->jr[i] = one; break;
+        case 1: n->jr[i] = least(LIMIT_RATIO, one + rnd(3)); break;
+        case 2: n->jr[i] = between(1, 20); break;
+        case 3: n->jr[i] = pct(50) ? 1 : LIMIT_RATIO; break;
+        case 4: n->jr[i] = between(1, 100); break;
+        default: n->jr[i] = any_ratio(); break;
+        }
+    if (pct(60))
+        sort_ratios(n, pct(50));
+}
+
+int top_ratio(const Net *n)
+{
+    int i, top = n->njr > 0 ? n->jr[0] : 100;
+    for (i = 1; i < n->njr; i++)
+        if (n->jr[i] > top) top = n->jr[i];
+    return top;
+}
+
+static int one_of_ratios(const Net *n)
+{
+    return n->njr > 0 ? n->jr[rnd(n->njr)] : 100;
 }
 
 /* ---- routing parameters ---- */
@@ -159,16 +214,18 @@ static int64_t pattern_sum(const Block *b)
     return sum;
 }
 
-/* Depth units fallen after the first `count` intervals. */
-static int64_t fallen(const Block *b, int count)
+/* Depth units fallen after the first `count` intervals, under a ratio. */
+static int64_t fallen(const Block *b, int count, int ratio)
 {
     int64_t sum = 0;
     int i;
     for (i = 0; i < count; i++)
         sum += b->pi[i];
     if (!b->has_pb)
-        return 60 * sum;
-    return b->pb == 0 ? 0 : 60 * (int64_t)b->pb * sum / pattern_sum(b);
+        sum *= 60;
+    else
+        sum = b->pb == 0 ? 0 : 60 * (int64_t)b->pb * sum / pattern_sum(b);
+    return ratio * sum / 100;
 }
 
 /* A total that is hard to cut: at a limit, tiny, prime, a multiple of the
@@ -264,15 +321,15 @@ static int wet_interval(const Block *b)
 /* Aims the initial loss at one interval: filled at its end, 0.0001 inch before
    or behind that, 0.0001 inch behind its beginning, or anywhere inside; and the
    uniform loss at what is left there: none of it, a part, nearly all, all. */
-static void aim_losses(const Net *n, Block *b)
+static void aim_losses(const Net *n, Block *b, int ratio)
 {
     int i = wet_interval(b);
     if (i < 0)
         return;
     if (i > 1 && pct(30))
         b->pi[between(1, i - 1)] = 0;              /* a dry interval on the way */
-    int64_t end = fallen(b, i + 1);
-    int from = lawful_loss(fallen(b, i) / 60), to = lawful_loss(end / 60);
+    int64_t end = fallen(b, i + 1, ratio);
+    int from = lawful_loss(fallen(b, i, ratio) / 60), to = lawful_loss(end / 60);
     switch (rnd(9)) {
     case 0: case 1: b->lu1 = to; break;
     case 2: b->lu1 = lawful_loss(to - 1); break;
@@ -297,7 +354,7 @@ static void runoff(Net *n, Block *b, int maxlist, int64_t budget, int wild)
 {
     static const int tops[] = { 1, 7, 100, 2500, 10000, 10000, 30000, 200000 };
     int i, most = least(n->nq, maxlist);
-    int pmax = tops[rnd(8)];
+    int pmax = tops[rnd(8)], top = top_ratio(n), ratio = one_of_ratios(n);
     b->kind = 1;
     b->has_ba = 1;
     b->ba = any_area();
@@ -312,9 +369,10 @@ static void runoff(Net *n, Block *b, int maxlist, int64_t budget, int wild)
     most = least(LIMIT_UNITS, maxlist);
     b->nui = pct(4) ? 0 : between(1, most);
     if (pct(5)) b->nui = most;
-    /* with a total no ordinate passes the whole storm on the greatest unit ordinate */
-    int64_t umax = !b->has_pb ? budget / ((int64_t)60 * pmax * (b->nui > 0 ? b->nui : 1))
-                 : b->pb > 0 ? budget / ((int64_t)60 * b->pb) : LIMIT_UI;
+    /* the most that falls in an interval, a unit more where earlier ones were cut; with a total no
+       ordinate passes the whole storm on the greatest unit ordinate */
+    int64_t depth = !b->has_pb ? ((int64_t)60 * pmax * top + 99) / 100 + (top != 100) : (int64_t)60 * b->pb * top / 100;
+    int64_t umax = depth == 0 ? LIMIT_UI : budget / (depth * (!b->has_pb && b->nui > 0 ? b->nui : 1));
     if (wild || umax > LIMIT_UI) umax = LIMIT_UI;
     for (i = 0; i < b->nui; i++) {
         int r = rnd(10);
@@ -327,9 +385,8 @@ static void runoff(Net *n, Block *b, int maxlist, int64_t budget, int wild)
             b->ui[i] = LIMIT_UI;
     }
     /* a cut total need not be a whole loss: then the loss below it is one too small */
-    int64_t depth = fallen(b, rnd(b->npi + 1));
-    int total = depth / 60 > LIMIT_PI ? LIMIT_PI : (int)(depth / 60);
-    int all = fallen(b, b->npi) / 60 > LIMIT_PI ? LIMIT_PI : (int)(fallen(b, b->npi) / 60);
+    depth = fallen(b, rnd(b->npi + 1), ratio);
+    int total = lawful_loss(depth / 60), all = lawful_loss(fallen(b, b->npi, ratio) / 60);
     switch (rnd(12)) {
     case 0: case 1: case 2: b->lu1 = 0; break;
     case 3: case 4: b->lu1 = total; break;
@@ -342,7 +399,7 @@ static void runoff(Net *n, Block *b, int maxlist, int64_t budget, int wild)
     if (b->lu1 < 0) b->lu1 = 0;
     if (b->lu1 > LIMIT_PI) b->lu1 = LIMIT_PI;
     i = rnd(b->npi);
-    int64_t even = b->npi > 0 ? (fallen(b, i + 1) - fallen(b, i)) / n->m : 0;
+    int64_t even = b->npi > 0 ? (fallen(b, i + 1, ratio) - fallen(b, i, ratio)) / n->m : 0;
     switch (rnd(12)) {
     case 0: case 1: case 2: b->lu2 = 0; break;
     case 3: b->lu2 = 1; break;
@@ -352,7 +409,7 @@ static void runoff(Net *n, Block *b, int maxlist, int64_t budget, int wild)
     default: b->lu2 = even > 0 ? between(0, even > LIMIT_PI ? LIMIT_PI : (int)even) : 0; break;
     }
     if (pct(40))
-        aim_losses(n, b);
+        aim_losses(n, b, ratio);
 }
 
 static void inflow(Net *n, Block *b, int maxlist, int64_t budget, int wild)
@@ -505,11 +562,23 @@ static void add_initial_loss(Block *b, int first, int wet)
         b->pi[first] += b->lu1;
 }
 
-/* A network whose outlet stands at the flow limit: excess 0 at it, below 0
-   hundredths under it, above 0 over it (1000 means one flow unit over). */
+/* Makes 1.00 the greatest ratio. */
+static void ratios_to_one(Net *n)
+{
+    int i;
+    for (i = 0; i < n->njr; i++)
+        if (n->jr[i] > 100) n->jr[i] = pct(50) ? 100 : between(1, 100);
+    if (n->njr > 0 && top_ratio(n) < 100)
+        n->jr[rnd(n->njr)] = 100;
+}
+
+/* A network whose outlet stands at the flow limit under the ratio 1.00, the
+   greatest: excess 0 at it, below 0 hundredths under it, above 0 over it (1000
+   means one flow unit over). */
 void net_limit(Net *n, int leaves, int excess)
 {
     int i, k, nl = 0, at, steady, total = LIMIT_QI, unit = 0;
+    ratios_to_one(n);
     int blocks = leaves + closing(leaves);
     int routed = pct(50) ? 25 : 0;
     if (excess == 1000) {
@@ -599,6 +668,133 @@ void net_limit(Net *n, int leaves, int excess)
     net_names(n, 0);
 }
 
+static Block *new_leaf(Net *n, int kind)
+{
+    Block *b = &n->b[n->nb];
+    memset(b, 0, offsetof(Block, pi));
+    b->kind = kind;
+    n->order[n->nb] = n->nb;
+    n->nb++;
+    if (kind == 1 || pct(30)) {
+        b->has_ba = 1;
+        b->ba = any_area();
+    }
+    return b;
+}
+
+/* All blocks so far meet in one. */
+static void close_net(Net *n)
+{
+    Block *b = &n->b[n->nb];
+    int i;
+    memset(b, 0, offsetof(Block, pi));
+    b->kind = 3;
+    b->hc = b->nch = n->nb;
+    for (i = 0; i < n->nb; i++)
+        b->ch[i] = i;
+    n->order[n->nb] = n->nb;
+    n->nb++;
+    net_names(n, 0);
+}
+
+/* Rain in one interval alone, from a total or not. */
+static void one_shower(Net *n, Block *b, int at, int depth)
+{
+    int i, total = depth > LIMIT_PI || pct(40);
+    b->npi = between(at + 1, n->nq);
+    for (i = 0; i < b->npi; i++)
+        b->pi[i] = 0;
+    b->pi[at] = total ? between(1, LIMIT_PI) : depth;
+    b->has_pb = total;
+    b->pb = total ? depth : 0;
+    b->nui = 1;
+}
+
+static int64_t common(int64_t a, int64_t b)        /* greatest common divisor */
+{
+    while (b != 0) {
+        int64_t t = a % b;
+        a = b;
+        b = t;
+    }
+    return a;
+}
+
+/* Unit ordinates that make whole hundredths of such an excess, within the
+   limit; 0 when there are none. */
+static int even_unit(int64_t excess)
+{
+    int64_t step = 600000 / common(excess, 600000);
+    int64_t most = LIMIT_FLOW / excess < LIMIT_UI ? LIMIT_FLOW / excess : LIMIT_UI;
+    most /= step;
+    return most < 1 ? 0 : (int)(step * (pct(50) ? most : between(1, (int)most)));
+}
+
+/* An outlet that stands at the flow limit under the greatest ratio alone; over:
+   one flow unit above it. */
+void net_ratio_limit(Net *n, int over)
+{
+    int top = top_ratio(n), at = rnd(n->nq), k, tries;
+    int64_t depth, excess = 0;
+    Block *b;
+    if (over) n->m = 1;                            /* makes losses of single depth units */
+    n->nb = 0;
+    b = new_leaf(n, 1);
+    for (tries = 0; tries < 60; tries++) {
+        one_shower(n, b, at, pct(50) ? 100 * between(1, LIMIT_PB / 100) : between(1, LIMIT_PB));
+        depth = fallen(b, b->npi, top);
+        b->lu1 = pct(40) && tries < 50 ? between(0, lawful_loss(depth / 60)) : 0;
+        b->lu2 = pct(40) && tries < 50 ? between(0, lawful_loss((depth - 60 * b->lu1) / n->m)) : 0;
+        excess = depth - 60 * b->lu1 - (int64_t)n->m * b->lu2;
+        b->ui[0] = excess > 0 ? even_unit(excess) : 0;
+        if (b->ui[0] > 0)
+            break;
+    }
+    int q = (int)((LIMIT_FLOW - b->ui[0] * excess) / 600000);
+    b = new_leaf(n, 2);
+    b->nqi = between(at + 1, n->nq);
+    for (k = 0; k < b->nqi; k++)
+        b->qi[k] = k == at ? q : rnd(q + 1);
+    if (over) {                                    /* a leaf that yields one unit */
+        b = new_leaf(n, 1);
+        do {
+            one_shower(n, b, at, between(1, 300000 / top));
+            depth = fallen(b, b->npi, top);
+        } while (depth < 1);
+        b->lu1 = pct(50) ? between(0, lawful_loss((depth - 1) / 60)) : 0;
+        b->lu2 = (int)(depth - 1 - 60 * b->lu1);
+        b->ui[0] = 1;
+    }
+    close_net(n);
+}
+
+/* An inflow at the limit in one interval, and a rain so fine that it depends on
+   the rounding whether that interval gets a unit of it: a smaller ratio may
+   pass the limit where a greater one does not. */
+void net_drip(Net *n)
+{
+    if (n->nq < 4) n->nq = between(4, 40);
+    int at = rnd(n->nq), k, v = between(1, LIMIT_PI);
+    for (k = 0; k < n->njr; k++)
+        if (pct(80)) n->jr[k] = between(1, 30);
+    n->nb = 0;
+    Block *b = new_leaf(n, 1);
+    b->has_pb = 1;
+    b->pb = between(1, 3);
+    b->npi = n->nq;
+    for (k = 0; k < b->npi; k++)
+        b->pi[k] = pct(85) ? v : rnd(LIMIT_PI + 1);
+    b->pi[rnd(b->npi)] = v;
+    b->nui = 1;
+    b->ui[0] = between(1, 3);
+    b = new_leaf(n, 2);
+    b->nqi = at + 1;
+    for (k = 0; k < at; k++)
+        b->qi[k] = 0;
+    b->qi[at] = LIMIT_QI;
+    close_net(n);
+}
+
 /* A chain of confluences of two, each taking one leaf and the chain above it:
    cheap when the chain comes first, deep when the leaf comes first. */
 void net_caterpillar(Net *n, int depth, int maxlist)
@@ -644,8 +840,8 @@ static void one_name(Block *b)
     for (i = 0; i < b->nlen; i++)
         b->name[i] = odd ? (unsigned char)between(0x21, 0x7E) : (unsigned char)plain[rnd(36)];
     if (pct(2)) {
-        static const char *const tricky[] = { "END", "ZZ", "KK", "--", "*FIX", ",", ",,", "0", "REFUSE", "*FREE" };
-        const char *t = tricky[rnd(10)];
+        static const char *const tricky[] = { "END", "ZZ", "KK", "--", "*FIX", ",", ",,", "0", "REFUSE", "*FREE", "RATIO", "JR" };
+        const char *t = tricky[rnd(12)];
         b->nlen = (int)strlen(t);
         memcpy(b->name, t, (size_t)b->nlen);
     }

@@ -5,7 +5,7 @@
 #include "decks.h"
 
 static const char *const idents[] = {
-    "ID", "IT", "KK", "KM", "BA", "PB", "PI", "LU", "UI", "QI", "HC", "RM", "ZZ"
+    "ID", "IT", "JR", "KK", "KM", "BA", "PB", "PI", "LU", "UI", "QI", "HC", "RM", "ZZ"
 };
 
 const char *tag_ident(int tag)
@@ -88,13 +88,14 @@ int number_write(char *out, int v, int places, int width, int vary)
 int text_random(unsigned char *out, int most)
 {
     static const char *const likeness[] = {
-        "KK", "ZZ", "IT 60,,,4", "*FREE", "END", "REFUSED 3 1", "BA 1.50", "END OF DATA", ",,,", "POND"
+        "KK", "ZZ", "IT 60,,,4", "*FREE", "END", "REFUSED 3 1", "BA 1.50", "END OF DATA", ",,,", "POND", "JR PREC,1.00",
+        "RATIO 1.00"
     };
     int n, i;
     if (most <= 0)
         return 0;
     if (pct(25)) {
-        const char *t = likeness[rnd(10)];
+        const char *t = likeness[rnd(12)];
         n = (int)strlen(t);
         if (n > most) n = most;
         memcpy(out, t, (size_t)n);
@@ -310,6 +311,24 @@ static void record(Writer *w, int tag, int nf, const int *v, const int *places, 
     }
 }
 
+/* The ratios, all on one line: where they do not fit, in a plainer manner. */
+static void ratio_line(Writer *w, const Net *n)
+{
+    int vary = w->s->vary, k;
+    for (;;) {
+        Line *l = add(w, T_JR);
+        int ok = 1;
+        strcpy(l->f[0], "PREC");
+        for (k = 0; k < n->njr; k++)
+            ok = ok && number_write(l->f[k + 1], n->jr[k], 2, field_width(l, k + 1), vary);
+        l->nf = n->njr + 1;
+        if (ok && line_compose(l, w->s))
+            return;
+        w->d->nl--;
+        vary = 0;
+    }
+}
+
 static void list_line(Writer *w, int tag, const int *v, int n, int *pos, int places)
 {
     int left = n - *pos, want;
@@ -459,6 +478,11 @@ void deck_write(Deck *d, const Net *n, const Style *s)
     v[2] = given[2][0] ? -2 : -1;
     v[3] = n->nq;
     record(&w, T_IT, 4, v, itp, given);
+    if (n->njr > 0) {
+        for (i = pct(30) ? between(1, 6) : 1; i > 0; i--)
+            sprinkle(&w);
+        ratio_line(&w, n);
+    }
     for (i = 0; i < n->nb; i++) {
         sprinkle(&w);
         w.blk = i;

@@ -1,9 +1,9 @@
 /* The hydrograph engine; see engine.h.  The first part holds the water
  * (document 01, 'Water, in whole units'; document 02, CR 1, for rain that
- * comes as a total and a pattern, and CR 2 for the losses), the second the
- * records and their limits, the third the blocks and the order of the refusals
- * ('What comes back').  Functions that can refuse return the refusal's number,
- * 0 if none. */
+ * comes as a total and a pattern, CR 2 for the losses and CR 3 for ratios of
+ * the rain), the second the records and their limits, the third the blocks,
+ * the passes over the deck and the order of the refusals ('What comes back').
+ * Functions that can refuse return the refusal's number, 0 if none. */
 #include "engine.h"
 
 #include "cards.h"
@@ -36,7 +36,8 @@ enum refusal {
 enum {
     UNIT_GRAPH_LIMIT = 150,             /* UI values in a block */
     DEPTH_PER_TEN_THOUSANDTH = 60,      /* depth units */
-    FLOW_PER_HUNDREDTH = 600000         /* flow units */
+    FLOW_PER_HUNDREDTH = 600000,        /* flow units */
+    WHOLE_RATIO = 100                   /* the ratio 1.00, in hundredths */
 };
 
 static const uint64_t FLOW_LIMIT = 6000000000000;
@@ -79,28 +80,27 @@ static uint32_t total_of(const struct list *list)
     return total;
 }
 
-/* Cuts a total in the shares of a pattern.  Running totals are cut, not
- * single shares, so what one interval loses by rounding down a later one
- * gets, and the last one makes the total whole.  No product passes 6e7 units
- * times 6e7, which fits. */
-static void cut_rain(uint32_t total, const struct list *pattern,
-                     uint32_t *rain)
+/* Makes of depths so many times as much, divided by a number.  Running totals
+ * are cut, not single depths, so what one interval loses by rounding down a
+ * later one gets.  rain may be the depths themselves.  No product passes 6e7
+ * units times 6e7 for a total, nor 999 times 3.6e9 for a ratio, which fits. */
+static void cut_rain(const uint32_t *depth, unsigned count, uint64_t times,
+                     uint64_t by, uint32_t *rain)
 {
-    uint64_t depth = (uint64_t)total * DEPTH_PER_TEN_THOUSANDTH;
-    uint64_t whole = total_of(pattern);
     uint64_t running = 0;
     uint64_t fallen = 0;
 
-    for (unsigned i = 0; i < pattern->count; i++) {
-        running += pattern->value[i];
-        uint64_t due = depth * running / whole;
+    for (unsigned i = 0; i < count; i++) {
+        running += depth[i];
+        uint64_t due = times * running / by;
         rain[i] = (uint32_t)(due - fallen);
         fallen = due;
     }
 }
 
-/* Rain of each interval of the list, in depth units.  A total of 0 is no
- * rain and asks nothing of its pattern, which may be all zero. */
+/* Rain of each interval of the list, in depth units.  A total is cut in the
+ * shares of the pattern, and the last interval makes it whole.  A total of 0
+ * is no rain and asks nothing of its pattern, which may be all zero. */
 static void find_rain(const struct list *cards, const struct storm *storm,
                       uint32_t *rain)
 {
@@ -108,9 +108,19 @@ static void find_rain(const struct list *cards, const struct storm *storm,
         for (unsigned i = 0; i < cards->count; i++)
             rain[i] = cards->value[i] * DEPTH_PER_TEN_THOUSANDTH;
     else if (storm->total > 0)
-        cut_rain(storm->total, cards, rain);
+        cut_rain(cards->value, cards->count,
+                 (uint64_t)storm->total * DEPTH_PER_TEN_THOUSANDTH,
+                 total_of(cards), rain);
     else
         memset(rain, 0, cards->count * sizeof *rain);
+}
+
+/* Turns the rain into that of a ratio.  32 bits do for an interval: it is at
+ * most 9.99 times 6e7 units, and one more where earlier ones were cut. */
+static void take_ratio(uint32_t *rain, unsigned count, uint32_t ratio)
+{
+    if (ratio != WHOLE_RATIO)
+        cut_rain(rain, count, ratio, WHOLE_RATIO, rain);
 }
 
 static uint32_t least(uint32_t a, uint32_t b)
@@ -139,7 +149,7 @@ static void take_loss(uint32_t *rain, unsigned count, const struct loss *loss,
 }
 
 /* Each interval's excess starts a unit graph of its own in that interval.
- * The sums stay below 1e17: 150 values of 1e7 times 6e7 units. */
+ * The sums stay below 1e18: 150 values of 1e7 times 6e8 units. */
 static void run_off(const uint32_t *excess, unsigned excess_count,
                     const struct list *unit_graph, uint64_t *flow, unsigned nq)
 {
@@ -239,6 +249,7 @@ enum record {
     REC_FIX,
     REC_ID,
     REC_IT,
+    REC_JR,
     REC_KK,
     REC_KM,
     REC_ZZ,
@@ -285,6 +296,7 @@ static const struct form RM_FORM = {
 static const struct rule PI_RULE = { 4, false, 0, 200000 };
 static const struct rule UI_RULE = { 2, false, 0, 9999999 };
 static const struct rule QI_RULE = { 2, false, 0, 10000000 };
+static const struct rule RATIO_RULE = { 2, false, 1, 999 };
 
 static bool is_text(struct text line, const char *text, unsigned length)
 {
@@ -299,6 +311,7 @@ static enum record identify(struct text line)
     switch (IDENTIFIER(line.at[0], line.length > 1 ? line.at[1] : ' ')) {
     case IDENTIFIER('I', 'D'): return REC_ID;
     case IDENTIFIER('I', 'T'): return REC_IT;
+    case IDENTIFIER('J', 'R'): return REC_JR;
     case IDENTIFIER('K', 'K'): return REC_KK;
     case IDENTIFIER('K', 'M'): return REC_KM;
     case IDENTIFIER('Z', 'Z'): return REC_ZZ;
@@ -373,6 +386,32 @@ static enum refusal read_list(struct text line, bool free_form,
     return ACCEPTED;
 }
 
+/* JR: a word, and behind it a list of its own.  Every ratio is a field of this
+ * one line, so there are never too many. */
+static enum refusal read_ratios(struct text line, bool free_form,
+                                struct ratios *ratios)
+{
+    struct fields fields;
+    int64_t number[FIELD_LIMIT];
+
+    if (!split_fields(line, free_form, &fields) || fields.count == 0
+        || !is_text(fields.at[0], "PREC", 4))
+        return MALFORMED;
+    for (unsigned k = 1; k < fields.count; k++)
+        if (!read_number(fields.at[k], RATIO_RULE.places, &number[k]))
+            return MALFORMED;
+    if (fields.count == 1)
+        return OUT_OF_LIMITS;
+    for (unsigned k = 1; k < fields.count; k++)
+        if (!within(number[k], &RATIO_RULE))
+            return OUT_OF_LIMITS;
+    ratios->given = true;
+    ratios->count = fields.count - 1;
+    for (unsigned k = 1; k < fields.count; k++)
+        ratios->value[k - 1] = (uint32_t)number[k];
+    return ACCEPTED;
+}
+
 /* ---- Blocks and the run ----------------------------------------------- */
 
 enum kind {
@@ -400,13 +439,19 @@ struct block {
 enum phase {
     BEFORE_IT,
     BEFORE_KK,
+    BEHIND_JR,
     IN_BLOCK,
     ENDED
 };
 
+/* The deck is read once for each ratio: the work words hold no more than the
+ * hydrographs of one.  The members before free_form outlast a pass. */
 struct run {
     const struct room *room;
-    uint64_t named;
+    struct named named;
+    struct ratios ratios;
+    unsigned place;             /* the pass's ratio, from 0 */
+    size_t first_record;        /* of the pass, from 0 */
     bool free_form;
     enum phase phase;
     uint32_t minutes;
@@ -467,6 +512,17 @@ static void write_record(uint8_t *record, struct text name, enum kind kind,
     put_number(record + RECORD_SUM, summary->sum, 8);
 }
 
+/* The ordinates of the named block, where the pass is the named ratio's. */
+static void hand_out_ordinates(const struct run *run, const uint64_t *flow)
+{
+    uint64_t ratio = run->named.ratio;
+
+    if (ratio == 0)
+        ratio = run->ratios.count;
+    if (ratio == run->place + 1 && run->room->ordinate_words >= run->nq)
+        memcpy(run->room->ordinates, flow, run->nq * sizeof *flow);
+}
+
 /* Hands out what the caller asked about the block just worked.  Room that is
  * too small is passed over here: a later line may still be refused, and that
  * is answered first. */
@@ -474,12 +530,13 @@ static void hand_out(struct run *run, enum kind kind, uint32_t area,
                      const uint64_t *flow, const struct summary *summary)
 {
     const struct room *room = run->room;
+    size_t records = run->first_record + run->blocks;
 
-    if (room->record_bytes / RECORD_BYTES >= run->blocks)
-        write_record(room->records + (size_t)(run->blocks - 1) * RECORD_BYTES,
+    if (room->record_bytes / RECORD_BYTES >= records)
+        write_record(room->records + (records - 1) * RECORD_BYTES,
                      run->block.name, kind, area, summary);
-    if (run->named == run->blocks && room->ordinate_words >= run->nq)
-        memcpy(room->ordinates, flow, run->nq * sizeof *flow);
+    if (run->named.block == run->blocks)
+        hand_out_ordinates(run, flow);
 }
 
 /* Area of the hydrograph that a block leaves in a place.  Confluence and
@@ -527,6 +584,7 @@ static enum refusal close_block(struct run *run)
     switch (kind) {
     case KIND_RUNOFF:
         find_rain(&block->rain, &block->storm, rain);
+        take_ratio(rain, block->rain.count, run->ratios.value[run->place]);
         take_loss(rain, block->rain.count, &block->loss, run->minutes);
         run_off(rain, block->rain.count, &block->unit_graph, flow, run->nq);
         break;
@@ -559,6 +617,8 @@ static bool in_place(const struct run *run, enum record record)
     case REC_ID:
     case REC_IT:
         return run->phase == BEFORE_IT;
+    case REC_JR:
+        return run->phase == BEFORE_KK;
     case REC_KK:
     case REC_ZZ:
         return run->phase != BEFORE_IT;
@@ -588,6 +648,12 @@ static enum refusal take_it(struct run *run, struct text line)
         run->phase = BEFORE_KK;
     }
     return refusal;
+}
+
+static enum refusal take_jr(struct run *run, struct text line)
+{
+    run->phase = BEHIND_JR;
+    return read_ratios(line, run->free_form, &run->ratios);
 }
 
 static enum refusal take_kk(struct run *run, struct text line)
@@ -691,6 +757,8 @@ static enum refusal take_line(struct run *run, struct text line)
         return ACCEPTED;
     case REC_IT:
         return take_it(run, line);
+    case REC_JR:
+        return take_jr(run, line);
     case REC_KK:
         return take_kk(run, line);
     case REC_ZZ:
@@ -721,11 +789,14 @@ static enum refusal take_lines(struct run *run, struct reader *reader)
 /* The checks that belong to no line and come after all lines. */
 static enum refusal check_end(const struct run *run)
 {
+    const struct room *room = run->room;
+
     if (run->phase != ENDED)
         return NO_END;
-    if (run->room->ordinate_words < run->nq
-        || run->room->record_bytes / RECORD_BYTES < run->blocks
-        || run->named > run->blocks)
+    if (room->ordinate_words < run->nq
+        || room->record_bytes / RECORD_BYTES < run->first_record
+        || run->named.block > run->blocks
+        || run->named.ratio > run->ratios.count)
         return SHORT_RESULT_ROOM;
     return ACCEPTED;
 }
@@ -753,43 +824,78 @@ static struct answer refuse(const struct room *room, enum refusal refusal,
     return (struct answer){ .refusal = refusal, .line = line };
 }
 
-/* At ZZ the last block's hydrograph is the one that is held. */
 static struct answer accept(const struct run *run)
 {
     const struct room *room = run->room;
 
-    if (run->named == 0)
-        memcpy(room->ordinates, room->work, run->nq * sizeof *room->work);
     clear_words(room->work, 0, room->work_words);
     clear_words(room->ordinates, run->nq, room->ordinate_words);
-    clear_bytes(room->records, (size_t)run->blocks * RECORD_BYTES,
+    clear_bytes(room->records, run->first_record * RECORD_BYTES,
                 room->record_bytes);
-    return (struct answer){ .nq = run->nq, .blocks = run->blocks };
+    return (struct answer){
+        .nq = run->nq, .blocks = run->blocks, .ratios = run->ratios
+    };
 }
 
-struct answer run_deck(const uint8_t *deck, size_t length, uint64_t named,
+/* One pass over the deck, under the ratio in its place.  At ZZ the last
+ * block's hydrograph is the one that is held. */
+static enum refusal take_pass(struct run *run, struct reader *reader)
+{
+    enum refusal refusal;
+
+    run->free_form = false;
+    run->phase = BEFORE_IT;
+    run->blocks = 0;
+    run->held = 0;
+    refusal = take_lines(run, reader);
+    if (refusal == ACCEPTED && run->phase == ENDED && run->named.block == 0)
+        hand_out_ordinates(run, run->room->work);
+    run->first_record += run->blocks;
+    return refusal;
+}
+
+/* Flows alone depend on the ratio: of what the passes are refused for, the
+ * earliest line counts, and on one line the smaller number.  Behind a line
+ * that was refused in one pass no other has to look. */
+static struct answer run_passes(struct run *run, const uint8_t *deck,
+                                size_t length)
+{
+    const uint8_t *end = deck + length;
+    enum refusal first = ACCEPTED;
+    unsigned line = 0;
+
+    for (run->place = 0; run->place < run->ratios.count; run->place++) {
+        struct reader reader = { deck, end, 0 };
+        enum refusal refusal = take_pass(run, &reader);
+
+        if (refusal == ACCEPTED)
+            continue;
+        if (first == ACCEPTED || reader.line < line || refusal < first)
+            first = refusal;
+        line = reader.line;
+        end = reader.at;
+    }
+    if (first != ACCEPTED)
+        return refuse(run->room, first, line);
+    first = check_end(run);
+    if (first != ACCEPTED)
+        return refuse(run->room, first, 0);
+    return accept(run);
+}
+
+struct answer run_deck(const uint8_t *deck, size_t length, struct named named,
                        const struct room *room)
 {
     struct run run;
-    enum refusal refusal;
 
     if (room->work_words < WORK_WORDS)
         return refuse(room, SHORT_WORK, 0);
     if (length > DECK_LIMIT)
         return refuse(room, LONG_DECK, 0);
 
-    struct reader reader = { deck, deck + length, 0 };
     run.room = room;
     run.named = named;
-    run.free_form = false;
-    run.phase = BEFORE_IT;
-    run.blocks = 0;
-    run.held = 0;
-    refusal = take_lines(&run, &reader);
-    if (refusal != ACCEPTED)
-        return refuse(room, refusal, reader.line);
-    refusal = check_end(&run);
-    if (refusal != ACCEPTED)
-        return refuse(room, refusal, 0);
-    return accept(&run);
+    run.ratios = (struct ratios){ false, 1, { WHOLE_RATIO } };
+    run.first_record = 0;
+    return run_passes(&run, deck, length);
 }

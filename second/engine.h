@@ -1,9 +1,10 @@
-/* The hydrograph engine of document 01 and document 02, CR 1 and CR 2: one
+/* The hydrograph engine of document 01 and document 02, CR 1 to CR 3: one
  * deck in, the hydrographs of its blocks out, all in memory that the caller
  * lends. */
 #ifndef ENGINE_H
 #define ENGINE_H
 
+#include <stdbool.h>
 #include <stddef.h>
 #include <stdint.h>
 
@@ -13,6 +14,7 @@ enum {
     HELD_LIMIT = 20,        /* hydrographs held at one time */
     WORK_WORDS = HELD_LIMIT * ORDINATE_LIMIT,
     BLOCK_LIMIT = 200,
+    RATIO_LIMIT = 9,        /* on JR */
     RECORD_BYTES = 32
 };
 
@@ -37,17 +39,33 @@ struct room {
     size_t record_bytes;
 };
 
-/* refusal 0: accepted, nq and blocks hold; otherwise refusal and line do. */
+/* The ratios that a deck is run under, in hundredths.  A deck without JR has
+ * one, 1.00, that nobody gave. */
+struct ratios {
+    bool given;
+    unsigned count;
+    uint32_t value[RATIO_LIMIT];
+};
+
+/* refusal 0: accepted, nq, blocks and ratios hold; otherwise refusal and line
+ * do. */
 struct answer {
     unsigned refusal;
     unsigned line;
     unsigned nq;
     unsigned blocks;
+    struct ratios ratios;
 };
 
-/* Runs one deck.  named is the block whose ordinates are wanted, from 1; 0 is
- * the last.  The bytes of a deck above DECK_LIMIT are never looked at. */
-struct answer run_deck(const uint8_t *deck, size_t length, uint64_t named,
+/* Whose ordinates are wanted: a block and a ratio, from 1; 0 is the last. */
+struct named {
+    uint64_t block;
+    uint64_t ratio;
+};
+
+/* Runs one deck.  The records come ratio by ratio.  The bytes of a deck above
+ * DECK_LIMIT are never looked at. */
+struct answer run_deck(const uint8_t *deck, size_t length, struct named named,
                        const struct room *room);
 
 #endif

@@ -1,6 +1,7 @@
 /* Fuzz driver of the self-test: runs thousands of mutated decks under the
  * sanitizers, from a fixed seed.  No outcome is known beforehand; what is
- * tested is what must hold for any deck (document 01, 'What comes back'):
+ * tested is what must hold for any deck (document 01, 'What comes back', and
+ * document 02, CR 3):
  * outcomes do not depend on what the lent room held or on room to spare,
  * refusals leave zeros, too little room is refused only where nothing else
  * is, records agree with ordinates, and some changes to a deck change nothing
@@ -17,6 +18,7 @@ enum {
     ROUNDS = 6000,
     DECK_ROOM = 70000,
     MOST_NAMED = 5,     /* blocks of a deck that are asked for by name */
+    RECORD_ROOM = BLOCK_LIMIT * RATIO_LIMIT * RECORD_BYTES,
     LAST_REFUSAL = 18
 };
 
@@ -44,7 +46,15 @@ static const char *const seeds[] = {
     "UI 40,20,10\nKK B\nBA 1\nPI 0,0\nPB 0\nLU\nUI 5\nKK C\nHC 2\nZZ\n",
 
     "IT    15                       5\nKK A\nPB   100\nUI  1000\nLU\nBA     1\n"
-    "PI     0      20\nKK R\nRM     1    0.25    0.20\nZZ\n"
+    "PI     0      20\nKK R\nRM     1    0.25    0.20\nZZ\n",
+
+    "*FREE\nIT 60,,,5\nJR PREC,.5,1.,9.99\nKK A\nBA 2\nPI .0101,.2307,,1.3\n"
+    "LU 0.2,0.1\nUI 40,20,10\nKK B\nBA 1\nPB 3.3333\nPI 1,3\nLU .1\nUI 7\n"
+    "KK C\nQI 1,2,3\nKK D\nHC 3\nZZ\n",
+
+    "IT    60                       3\nKM\nJR  PREC    0.01    2.50    2.50    2.51\n"
+    "KK A\nBA     1\nPI    20\nLU\nUI  2000\nKK B\nBA     1\nPI    10    0.07\n"
+    "LU\nUI     1\nKK C\nHC     2\nZZ\n"
 };
 
 static const char *const scraps[] = {
@@ -54,7 +64,10 @@ static const char *const scraps[] = {
     "IT 60,,,4\n", "BA 1\n", "PI 1,2\n", "LU 0,0\n", "UI 1\n", "QI 1\n", "HC 2\n",
     "RM 1,1,.2\n", "ZZ\n", "KK X\nQI 1\n", "KK X\nHC 2\n", "KK X\nRM 1,1,.2\n",
     "KK X\nQI 1\nKK Y\nHC 2\n", "PB 3.1\n", "PB 0\n", "PB\n", "PI 0\n", "PI\n",
-    "PB 100.0001\n", "KK X\nBA 1\nPB 1\nPI 0\nLU\nUI 1\n"
+    "PB 100.0001\n", "KK X\nBA 1\nPB 1\nPI 0\nLU\nUI 1\n", "PREC", "JR",
+    "JR PREC,1.00\n", "JR PREC 1.5 .01 9.99\n", "JR PREC\n", "JR prec,1\n",
+    "JR PREC,,2\n", "JR PREC,10\n", "IT 60,,,4\nJR PREC,2,1,.33\n",
+    "KK X\nBA 1\nPI 20,20\nLU\nUI 500\n"
 };
 
 enum { SEEDS = sizeof seeds / sizeof *seeds,
@@ -226,7 +239,7 @@ static void *take(size_t bytes, int fill)
 }
 
 /* Lends memory of just the sizes asked for, so that a step outside shows. */
-static struct outcome run(const char *text, size_t length, uint64_t named,
+static struct outcome run(const char *text, size_t length, struct named named,
                           size_t work, size_t ordinates, size_t records,
                           int fill)
 {
@@ -264,7 +277,16 @@ static bool all_zero(const void *at, size_t from, size_t bytes)
 static bool same_answer(struct answer a, struct answer b)
 {
     return a.refusal == b.refusal && a.line == b.line && a.nq == b.nq
-        && a.blocks == b.blocks;
+        && a.blocks == b.blocks && a.ratios.given == b.ratios.given
+        && a.ratios.count == b.ratios.count
+        && memcmp(a.ratios.value, b.ratios.value,
+                  a.ratios.count * sizeof *a.ratios.value) == 0;
+}
+
+/* Bytes of the records that an answer tells of. */
+static size_t record_bytes(const struct answer *answer)
+{
+    return (size_t)answer->blocks * answer->ratios.count * RECORD_BYTES;
 }
 
 /* Zeros where there must be zeros. */
@@ -273,7 +295,7 @@ static void check_zeros(const struct outcome *o)
     const struct room *room = &o->room;
     bool refused = o->answer.refusal != 0;
     size_t words = refused ? 0 : o->answer.nq;
-    size_t bytes = refused ? 0 : (size_t)o->answer.blocks * RECORD_BYTES;
+    size_t bytes = refused ? 0 : record_bytes(&o->answer);
 
     if (!all_zero(room->work, 0, room->work_words * sizeof(uint64_t)))
         broken("work is not zero");
@@ -293,7 +315,7 @@ static void check_same(const struct outcome *a, const struct outcome *b)
                a->answer.nq * sizeof(uint64_t)) != 0)
         broken("ordinates differ");
     if (memcmp(a->room.records, b->room.records,
-               (size_t)a->answer.blocks * RECORD_BYTES) != 0)
+               record_bytes(&a->answer)) != 0)
         broken("records differ");
 }
 
@@ -306,10 +328,12 @@ static uint64_t number(const uint8_t *at, unsigned bytes)
     return n;
 }
 
-/* A block's record against its ordinates. */
-static void check_record(const struct outcome *o, unsigned block)
+/* A block's record under a ratio against its ordinates. */
+static void check_record(const struct outcome *o, unsigned block,
+                         unsigned ratio)
 {
-    const uint8_t *record = o->room.records + (size_t)(block - 1) * RECORD_BYTES;
+    const uint8_t *record = o->room.records
+        + ((size_t)(ratio - 1) * o->answer.blocks + block - 1) * RECORD_BYTES;
     const uint64_t *flow = o->room.ordinates;
     uint64_t peak = flow[0], sum = 0;
     unsigned interval = 1;
@@ -334,7 +358,7 @@ static void check_record(const struct outcome *o, unsigned block)
 }
 
 /* Expects an answer with no blocks from a run with little room. */
-static void expect(uint64_t named, size_t work, size_t ordinates,
+static void expect(struct named named, size_t work, size_t ordinates,
                    size_t records, unsigned refusal, unsigned line)
 {
     struct outcome o = run(deck, deck_length, named, work, ordinates, records,
@@ -346,26 +370,45 @@ static void expect(uint64_t named, size_t work, size_t ordinates,
     drop(&o);
 }
 
-static void check_accepted(const struct outcome *base)
+/* The last block and the last ratio. */
+static const struct named last = { 0, 0 };
+
+/* Blocks by name, under each ratio. */
+static void check_named(const struct outcome *base, unsigned ratio)
 {
     unsigned nq = base->answer.nq;
     unsigned blocks = base->answer.blocks;
-    size_t bytes = (size_t)blocks * RECORD_BYTES;
+    size_t bytes = record_bytes(&base->answer);
 
     for (unsigned k = 0; k <= blocks && k <= MOST_NAMED; k++) {
-        struct outcome o = run(deck, deck_length, k, WORK_WORDS, nq, bytes, 7);
+        struct named named = { k, ratio };
+        struct outcome o = run(deck, deck_length, named, WORK_WORDS, nq, bytes,
+                               7);
         if (!same_answer(o.answer, base->answer))
             broken("the named block changes the answer");
         check_zeros(&o);
-        check_record(&o, k == 0 ? blocks : k);
+        check_record(&o, k == 0 ? blocks : k,
+                     ratio == 0 ? base->answer.ratios.count : ratio);
         if (memcmp(o.room.records, base->room.records, bytes) != 0)
             broken("the named block changes records");
         drop(&o);
     }
-    expect(blocks + 1, WORK_WORDS, nq, bytes, 17, 0);
-    expect(0, WORK_WORDS, nq - 1, bytes, 17, 0);
-    expect(0, WORK_WORDS, nq, bytes - 1, 17, 0);
-    expect(0, WORK_WORDS - 1, nq, bytes, 1, 0);
+}
+
+static void check_accepted(const struct outcome *base)
+{
+    unsigned nq = base->answer.nq;
+    unsigned blocks = base->answer.blocks;
+    unsigned ratios = base->answer.ratios.count;
+    size_t bytes = record_bytes(&base->answer);
+
+    for (unsigned r = 0; r <= ratios; r++)
+        check_named(base, r);
+    expect((struct named){ blocks + 1, 0 }, WORK_WORDS, nq, bytes, 17, 0);
+    expect((struct named){ 0, ratios + 1 }, WORK_WORDS, nq, bytes, 17, 0);
+    expect(last, WORK_WORDS, nq - 1, bytes, 17, 0);
+    expect(last, WORK_WORDS, nq, bytes - 1, 17, 0);
+    expect(last, WORK_WORDS - 1, nq, bytes, 1, 0);
 }
 
 /* Bytes behind ZZ are not read. */
@@ -377,8 +420,8 @@ static void check_behind_end(const struct outcome *base)
 
     memcpy(longer, deck, deck_length);
     memcpy(longer + deck_length, rest, sizeof rest - 1);
-    o = run(longer, deck_length + sizeof rest - 1, 0, WORK_WORDS,
-            ORDINATE_LIMIT, BLOCK_LIMIT * RECORD_BYTES, 3);
+    o = run(longer, deck_length + sizeof rest - 1, last, WORK_WORDS,
+            ORDINATE_LIMIT, RECORD_ROOM, 3);
     check_same(base, &o);
     drop(&o);
 }
@@ -391,8 +434,8 @@ static void check_line_in_front(const struct outcome *base)
 
     memcpy(longer, "KM,\r\n", 5);
     memcpy(longer + 5, deck, deck_length);
-    o = run(longer, deck_length + 5, 0, WORK_WORDS, ORDINATE_LIMIT,
-            BLOCK_LIMIT * RECORD_BYTES, 3);
+    o = run(longer, deck_length + 5, last, WORK_WORDS, ORDINATE_LIMIT,
+            RECORD_ROOM, 3);
     if (base->answer.line > 0)
         o.answer.line--;
     check_same(base, &o);
@@ -401,11 +444,10 @@ static void check_line_in_front(const struct outcome *base)
 
 static void check_deck(unsigned *count)
 {
-    size_t records = BLOCK_LIMIT * RECORD_BYTES;
-    struct outcome base = run(deck, deck_length, 0, WORK_WORDS, ORDINATE_LIMIT,
-                              records, 0xFF);
-    struct outcome wide = run(deck, deck_length, 0, WORK_WORDS + 37,
-                              ORDINATE_LIMIT + 5, records + 3, 1);
+    struct outcome base = run(deck, deck_length, last, WORK_WORDS,
+                              ORDINATE_LIMIT, RECORD_ROOM, 0xFF);
+    struct outcome wide = run(deck, deck_length, last, WORK_WORDS + 37,
+                              ORDINATE_LIMIT + 5, RECORD_ROOM + 3, 1);
 
     check_zeros(&base);
     check_zeros(&wide);
@@ -415,8 +457,9 @@ static void check_deck(unsigned *count)
         check_accepted(&base);
         check_behind_end(&base);
     } else {
-        expect(9, WORK_WORDS, 0, 0, base.answer.refusal, base.answer.line);
-        expect(0, 0, 0, 0, 1, 0);
+        expect((struct named){ 9, 9 }, WORK_WORDS, 0, 0, base.answer.refusal,
+               base.answer.line);
+        expect(last, 0, 0, 0, 1, 0);
     }
     check_line_in_front(&base);
     drop(&base);

@@ -4,16 +4,18 @@
  *   losses < BUNDLE
  *
  * The bundle is what hec1 --bundle reads.  Every runoff block of its accepted
- * decks is looked at.  Each line printed is a count of blocks without PB, one
- * of blocks with PB, and what was counted.  Exit status 0; 1 when one of the
- * counts is 0, which the line then says; 2 when the input is cut short.
+ * decks is looked at, once under each ratio.  Each line printed is a count of
+ * blocks without PB, one of blocks with PB, and what was counted.  Exit status
+ * 0; 1 when one of the counts is 0, which the line then says; 2 when the input
+ * is cut short.
  *
  * The engine's source is a part of this one: so the rain and the right excess
  * are the engine's own, and nothing in the engine has to know of the counts. */
 #include "engine.c"
 
+#include "bundle.h"
+
 #include <stdio.h>
-#include <stdlib.h>
 
 /* A runoff block's rain, excess and losses, in depth units. */
 struct basin {
@@ -131,13 +133,12 @@ static void count_ways(const struct basin *basin)
 
 /* ---- Wrong rules ------------------------------------------------------ */
 
-/* The losses, and what a rule carries from interval to interval.  No more than
- * 300 * 12,000,000 units fall, which fits. */
+/* The losses, and what a rule carries from interval to interval. */
 struct ground {
     uint32_t initial;
     uint32_t uniform;
     uint32_t unfilled;
-    uint32_t fallen;
+    uint64_t fallen;
 };
 
 /* (a) An interval is lost whole while all rain so far is at most the initial
@@ -227,7 +228,8 @@ static bool differs(const struct wrong_rule *rule, const struct basin *basin)
 
 static struct tally all = { .what = "runoff blocks" };
 
-static void look_at_block(const struct block *block, uint32_t minutes)
+static void look_at_block(const struct block *block, uint32_t minutes,
+                          uint32_t ratio)
 {
     struct basin basin = {
         .with_total = block->storm.given,
@@ -237,7 +239,8 @@ static void look_at_block(const struct block *block, uint32_t minutes)
     };
 
     find_rain(&block->rain, &block->storm, basin.rain);
-    find_rain(&block->rain, &block->storm, basin.excess);
+    take_ratio(basin.rain, basin.count, ratio);
+    memcpy(basin.excess, basin.rain, basin.count * sizeof *basin.rain);
     take_loss(basin.excess, basin.count, &block->loss, minutes);
     count(&all, &basin);
     count_ways(&basin);
@@ -246,56 +249,39 @@ static void look_at_block(const struct block *block, uint32_t minutes)
             count(&wrong_rules[k].told_apart, &basin);
 }
 
-/* Goes through an accepted deck as run_deck does, with a look at each runoff
- * block just before the line that closes it. */
-static void look_at_deck(const uint8_t *deck, size_t length,
-                         const struct room *room)
+/* Goes through an accepted deck as a pass of run_deck does, with a look at
+ * each runoff block just before the line that closes it. */
+static void look_at_pass(const uint8_t *deck, size_t length, struct run *run)
 {
     struct reader reader = { deck, deck + length, 0 };
-    struct run run = { .room = room, .phase = BEFORE_IT };
     struct text line;
 
-    while (run.phase != ENDED && next_line(&reader, &line) != LINE_NONE) {
+    run->free_form = false;
+    run->phase = BEFORE_IT;
+    run->blocks = 0;
+    run->held = 0;
+    while (run->phase != ENDED && next_line(&reader, &line) != LINE_NONE) {
         if (line.length == 0)
             continue;
         enum record record = identify(line);
-        if (run.phase == IN_BLOCK && (record == REC_KK || record == REC_ZZ)
-            && kind_of(run.block.seen) == KIND_RUNOFF)
-            look_at_block(&run.block, run.minutes);
-        take_line(&run, line);
+        if (run->phase == IN_BLOCK && (record == REC_KK || record == REC_ZZ)
+            && kind_of(run->block.seen) == KIND_RUNOFF)
+            look_at_block(&run->block, run->minutes,
+                          run->ratios.value[run->place]);
+        take_line(run, line);
     }
+}
+
+static void look_at_deck(const uint8_t *deck, size_t length,
+                         const struct answer *answer, const struct room *room)
+{
+    struct run run = { .room = room, .ratios = answer->ratios };
+
+    for (; run.place < answer->ratios.count; run.place++)
+        look_at_pass(deck, length, &run);
 }
 
 /* ---- The bundle ------------------------------------------------------- */
-
-static void read_bytes(uint8_t *at, size_t count)
-{
-    if (fread(at, 1, count, stdin) < count) {
-        fprintf(stderr, "losses: input is cut short\n");
-        exit(2);
-    }
-}
-
-/* Reads a deck behind its length.  False at the end of input.  Of a deck that
- * is too long the parts may be read over one another: it is refused. */
-static bool read_deck(uint8_t *deck, size_t *length)
-{
-    uint8_t bytes[4];
-    int first = getchar();
-
-    if (first == EOF)
-        return false;
-    bytes[0] = (uint8_t)first;
-    read_bytes(bytes + 1, 3);
-    *length = bytes[0] | (size_t)bytes[1] << 8 | (size_t)bytes[2] << 16
-            | (size_t)bytes[3] << 24;
-    for (size_t left = *length; left > 0; ) {
-        size_t part = left <= DECK_LIMIT ? left : DECK_LIMIT;
-        read_bytes(deck, part);
-        left -= part;
-    }
-    return true;
-}
 
 /* Prints two counts and returns how many of them are 0. */
 static unsigned print_tally(const struct tally *tally)
@@ -313,16 +299,19 @@ int main(void)
     static uint8_t deck[DECK_LIMIT];
     static uint64_t work[WORK_WORDS];
     static uint64_t ordinates[ORDINATE_LIMIT];
-    static uint8_t records[BLOCK_LIMIT * RECORD_BYTES];
+    static uint8_t records[BLOCK_LIMIT * RATIO_LIMIT * RECORD_BYTES];
     const struct room room = {
         work, WORK_WORDS, ordinates, ORDINATE_LIMIT, records, sizeof records
     };
     size_t length;
     unsigned missing;
 
-    while (read_deck(deck, &length))
-        if (run_deck(deck, length, 0, &room).refusal == ACCEPTED)
-            look_at_deck(deck, length, &room);
+    while (next_deck("losses", deck, &length)) {
+        struct answer answer = run_deck(deck, length, (struct named){ 0, 0 },
+                                        &room);
+        if (answer.refusal == ACCEPTED)
+            look_at_deck(deck, length, &answer, &room);
+    }
     puts("  no PB       PB  how the initial loss is filled");
     missing = print_tally(&all);
     for (unsigned k = 0; k < WAYS; k++)

@@ -1,12 +1,13 @@
 /* The program around the engine: reads one deck, a bundle of decks or a
  * bundle of cases from standard input and prints listings (document 01, 'A
- * deck and its listing') or, in the full form, all that the engine leaves in
+ * deck and its listing', and document 02, CR 3) or, in the full form, all that the engine leaves in
  * the room lent to it.
  *
  *   hec1                                  one deck, its listing
  *   hec1 --bundle                         length and deck, again and again
- *   hec1 --full [--named K] [--work W] [--ordinates N] [--records B]
- *   hec1 --cases                          K, W, N, B, length and deck, again
+ *   hec1 --full [--named K] [--ratio R] [--work W] [--ordinates N]
+ *        [--records B]
+ *   hec1 --cases                          K, R, W, N, B, length and deck, again
  *
  * Numbers in bundles have 4 bytes, little-endian.  Exit status 0 whether decks
  * are refused or not; 2 when the input is cut short or the call is wrong. */
@@ -98,6 +99,15 @@ static void print_record(const uint8_t *record)
     fwrite(line, 1, (size_t)(at - line), stdout);
 }
 
+static void print_ratio(uint32_t ratio)
+{
+    char line[LISTING_LINE] = "RATIO ";
+    char *at = add_hundredths(line + 6, ratio);
+
+    *at++ = '\n';
+    fwrite(line, 1, (size_t)(at - line), stdout);
+}
+
 static void print_refusal(const struct answer *answer)
 {
     printf("REFUSED %u %u\n", answer->refusal, answer->line);
@@ -139,29 +149,36 @@ static size_t count_not_zero(const uint64_t *words, size_t count)
 
 /* ---- Running ---------------------------------------------------------- */
 
+enum { RECORD_ROOM = BLOCK_LIMIT * RATIO_LIMIT * RECORD_BYTES };
+
 /* Room enough for every deck that can be accepted. */
 static void print_listing(size_t length)
 {
     static uint64_t work[WORK_WORDS];
     static uint64_t ordinates[ORDINATE_LIMIT];
-    static uint8_t records[BLOCK_LIMIT * RECORD_BYTES];
+    static uint8_t records[RECORD_ROOM];
     const struct room room = {
         work, WORK_WORDS, ordinates, ORDINATE_LIMIT, records, sizeof records
     };
-    struct answer answer = run_deck(deck, length, 0, &room);
+    const uint8_t *record = records;
+    struct answer answer = run_deck(deck, length, (struct named){ 0, 0 }, &room);
 
     if (answer.refusal != 0) {
         print_refusal(&answer);
         return;
     }
-    for (unsigned k = 0; k < answer.blocks; k++)
-        print_record(records + k * RECORD_BYTES);
+    for (unsigned r = 0; r < answer.ratios.count; r++) {
+        if (answer.ratios.given)
+            print_ratio(answer.ratios.value[r]);
+        for (unsigned k = 0; k < answer.blocks; k++, record += RECORD_BYTES)
+            print_record(record);
+    }
     printf("END %u\n", answer.blocks);
 }
 
 /* What a case asks for and lends. */
 struct wish {
-    uint64_t named;
+    struct named named;
     size_t work;
     size_t ordinates;
     size_t records;
@@ -213,7 +230,7 @@ static void print_full(size_t length, const struct wish *wish)
     if (answer.refusal != 0)
         print_refusal(&answer);
     else
-        printf("%u %u\n", answer.nq, answer.blocks);
+        printf("%u %u %u\n", answer.nq, answer.blocks, answer.ratios.count);
     print_ordinates(room.ordinates, room.ordinate_words);
     print_bytes(room.records, room.record_bytes);
     printf("%zu\n", count_not_zero(room.work, room.work_words));
@@ -236,11 +253,13 @@ static size_t read_only_deck(void)
     return length;
 }
 
+enum { CASE_NUMBERS = 6 };
+
 /* Reads numbers of 4 bytes.  False: the input ends where the first would
  * begin. */
 static bool read_numbers(uint32_t *numbers, unsigned count)
 {
-    uint8_t bytes[5 * 4];
+    uint8_t bytes[CASE_NUMBERS * 4];
     size_t found = fread(bytes, 1, count * 4, stdin);
 
     if (found == 0 && !ferror(stdin))
@@ -277,12 +296,14 @@ static void run_bundle(void)
 
 static void run_cases(void)
 {
-    uint32_t number[5];
+    uint32_t number[CASE_NUMBERS];
 
-    while (read_numbers(number, 5)) {
-        struct wish wish = { number[0], number[1], number[2], number[3] };
-        read_deck(number[4]);
-        print_full(number[4], &wish);
+    while (read_numbers(number, CASE_NUMBERS)) {
+        struct wish wish = {
+            { number[0], number[1] }, number[2], number[3], number[4]
+        };
+        read_deck(number[5]);
+        print_full(number[5], &wish);
         puts("--");
     }
 }
@@ -304,7 +325,7 @@ static uint64_t option_value(const char *text)
 int main(int argc, char **argv)
 {
     struct wish wish = {
-        0, WORK_WORDS, ORDINATE_LIMIT, BLOCK_LIMIT * RECORD_BYTES
+        { 0, 0 }, WORK_WORDS, ORDINATE_LIMIT, RECORD_ROOM
     };
     bool full = false, bundle = false, cases = false;
 
@@ -316,7 +337,9 @@ int main(int argc, char **argv)
         else if (strcmp(argv[k], "--cases") == 0)
             cases = true;
         else if (strcmp(argv[k], "--named") == 0)
-            wish.named = option_value(argv[++k]);
+            wish.named.block = option_value(argv[++k]);
+        else if (strcmp(argv[k], "--ratio") == 0)
+            wish.named.ratio = option_value(argv[++k]);
         else if (strcmp(argv[k], "--work") == 0)
             wish.work = option_value(argv[++k]);
         else if (strcmp(argv[k], "--ordinates") == 0)

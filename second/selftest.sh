@@ -1,7 +1,7 @@
 #!/usr/bin/env bash
 # Self-test of the second program.  Builds it and the fuzz driver with the
 # address and undefined-behaviour sanitizers, runs small decks against outcomes
-# worked out by hand from document 01 and document 02, CR 1 and CR 2, then the
+# worked out by hand from document 01 and document 02, CR 1 to CR 3, then the
 # fuzz.  The last line counts.
 #
 # Decks and expected texts are written with printf's escapes (\n, \r, \xHH).
@@ -11,6 +11,7 @@ out=$here/../target/second
 prog=$out/hec1-checked
 fuzz=$out/fuzz-checked
 losses=$out/losses-checked
+ratios=$out/ratios-checked
 mkdir -p "$out"
 scratch=$(mktemp -d) || exit 1
 trap 'rm -rf "$scratch"' EXIT
@@ -24,7 +25,8 @@ build() {
 }
 build "$prog" "$here/main.c" "$here/engine.c" "$here/cards.c"
 build "$fuzz" "$here/fuzz.c" "$here/engine.c" "$here/cards.c"
-build "$losses" "$here/losses.c" "$here/cards.c"
+build "$losses" "$here/losses.c" "$here/cards.c" "$here/bundle.c"
+build "$ratios" "$here/ratios.c" "$here/cards.c" "$here/bundle.c"
 
 # Nothing is looked for that was not freed: each run ends at once, and on some
 # machines the search takes seconds a run.
@@ -73,14 +75,14 @@ full() {
     check "$deck $*" "$expected" "$got"
 }
 
-# flows ORDINATES DECK [NAMED]: the ordinates of a block, the last by default.
-# As many are lent as are expected.
+# flows ORDINATES DECK [NAMED [RATIO]]: the ordinates of a block under a ratio,
+# the last ones by default.  As many are lent as are expected.
 flows() {
     local count got
     count=$(wc -w <<<"$1")
-    got=$(printf '%b' "$2" | run --full --ordinates "$count" --named "${3:-0}" |
-        sed -n 2p)
-    check "$2" "$1" "$got"
+    got=$(printf '%b' "$2" | run --full --ordinates "$count" --named "${3:-0}" \
+        --ratio "${4:-0}" | sed -n 2p)
+    check "$2 ${3:-} ${4:-}" "$1" "$got"
 }
 
 # times COUNT TEXT: the text again and again.
@@ -163,16 +165,17 @@ refused 15 3 'ID\nIT    60                       4\nZZ\n'
 refused 15 4 'ID X\n*FREE\nIT 60,,,4\nZZ\n'
 
 # ---- Rooms (1, 17), the named block, and zeros --------------------------
+# without a JR; with one they stand among the ratios
 
 small="${free}KK A\nQI 1\nZZ\n"
 rec_a=412020202020020000000000008793030000000001000000
 rec_a+=0087930300000000
 zeros() { times "$1" 00; }
 
-full "4 1\n60000000 0 0 0 0 0\n$rec_a$(zeros 8)\n0\n" "$small" --ordinates 6 --records 40
-full "4 1\n60000000 0 0 0\n$rec_a\n0\n" "$small" --ordinates 4 --records 32 --named 1
-full "4 1\n60000000 0 0 0\n$rec_a\n0\n" "$small" --ordinates 4 --records 32 --work 7001
-full "4 1\n60000000 0 0 0$(times 296 ' 0')\n$rec_a$(zeros 6368)\n0\n" "$small"
+full "4 1 1\n60000000 0 0 0 0 0\n$rec_a$(zeros 8)\n0\n" "$small" --ordinates 6 --records 40
+full "4 1 1\n60000000 0 0 0\n$rec_a\n0\n" "$small" --ordinates 4 --records 32 --named 1
+full "4 1 1\n60000000 0 0 0\n$rec_a\n0\n" "$small" --ordinates 4 --records 32 --work 7001
+full "4 1 1\n60000000 0 0 0$(times 296 ' 0')\n$rec_a$(zeros 57568)\n0\n" "$small"
 full "REFUSED 17 0\n0 0 0\n$(zeros 32)\n0\n" "$small" --ordinates 3 --records 32
 full "REFUSED 17 0\n0 0 0 0\n$(zeros 31)\n0\n" "$small" --ordinates 4 --records 31
 full "REFUSED 17 0\n0 0 0 0\n$(zeros 32)\n0\n" "$small" --ordinates 4 --records 32 --named 2
@@ -196,8 +199,8 @@ rec_up=55502020202001009600000000 rec_up=${rec_up}0e27070000000002000000007a030a
 rec_riv=524956202020040096000000187ce4040000000003000000a773360900000000
 rec_side=534944452020020000000000000e27070000000002000000002a751500000000
 rec_out=4f5554202020030096000000188a0b0c0000000003000000a79dab1e00000000
-full "4 4\n60000000 147692307 202082840 104788348\n$rec_up$rec_riv$rec_side$rec_out\n0\n" "$pond" --ordinates 4 --records 128
-full "4 4\n0 27692307 82082840 44788348 0\n$rec_up$rec_riv$rec_side$rec_out$(zeros 3)\n0\n" "$pond" --ordinates 5 --records 131 --named 2
+full "4 4 1\n60000000 147692307 202082840 104788348\n$rec_up$rec_riv$rec_side$rec_out\n0\n" "$pond" --ordinates 4 --records 128
+full "4 4 1\n0 27692307 82082840 44788348 0\n$rec_up$rec_riv$rec_side$rec_out$(zeros 3)\n0\n" "$pond" --ordinates 5 --records 131 --named 2
 full "REFUSED 17 0\n0 0 0 0\n$(zeros 127)\n0\n" "$pond" --ordinates 4 --records 127 --named 2
 full "REFUSED 17 0\n0 0 0 0\n$(zeros 128)\n0\n" "$pond" --ordinates 4 --records 128 --named 5
 # without --full the rooms are enough whatever the options say
@@ -278,7 +281,7 @@ refused 5 1 'KK\n'
 refused 5 1 'ZZ\n'
 refused 5 1 'ZZ'
 refused 5 2 'ID\nZZ\n'
-for line in BA PB PI LU UI QI HC RM; do
+for line in BA PB PI LU UI QI HC RM; do     # JR has a part of its own
     refused 5 1 "$line\n"
     refused 5 3 "$free$line\n"
     refused 5 3 "$free$line x\n"
@@ -1086,8 +1089,9 @@ flows '0 0' "$(cut_loss 1440 2 0 1,1 20,20)"
 # Any rain and any losses, worked in another way: from running totals, with
 # nothing carried.  The rain so far less the initial loss, where that is above 0,
 # has been left by it so far; an interval's part of that is a difference.
-# 'excess' has two lines a deck: NQ, then the ordinates.  The numbers stay below
-# 2^53.
+# Every other deck has ratios, which cut the running totals before that.
+# 'excess' has a line with NQ and the count of ratios, then the ordinates under
+# each.  The numbers stay below 2^53.
 basins=300
 awk -v n="$basins" -v scratch="$scratch" '
     function chance(below) {
@@ -1096,7 +1100,8 @@ awk -v n="$basins" -v scratch="$scratch" '
     }
     function inches(v) { return sprintf("%d.%04d", (v - v % 10000) / 10000, v % 10000) }
     function above(a, b) { return a > b ? a - b : 0 }
-    function one(k,    minutes, nq, count, i, top, total, sum, all, initial, uniform, left, x, line, deck, text) {
+    function cut(rain, ratio) { return (rain * ratio - rain * ratio % 100) / 100 }
+    function one(k,    minutes, nq, count, i, top, total, sum, all, initial, uniform, left, x, line, deck, text, ratios, r) {
         minutes = chance(3) ? 1 + chance(60) : chance(2) ? 1440 : 60
         nq = 1 + chance(12)
         count = 1 + chance(nq)
@@ -1108,11 +1113,15 @@ awk -v n="$basins" -v scratch="$scratch" '
         }
         total = sum > 0 && chance(2) ? 1 + chance(k % 3 ? 2 * sum : 1000000) : -1
         if (total > 1000000) total = 1000000
-        x = 0                                       # fallen[i]: rain up to and with interval i, in depth units
-        fallen[0] = 0
+        ratios = k % 2 ? 1 + chance(9) : 1
+        for (r = 1; r <= ratios; r++) ratio[r] = k % 2 ? chance(3) ? 1 + chance(200) : 1 + chance(999) : 100
+        r = ratio[1 + chance(ratios)]               # the one that the losses are aimed at
+        x = 0                                       # rain[i]: up to and with interval i, in depth units
+        rain[0] = fallen[0] = 0
         for (i = 1; i <= nq; i++) {
             if (i <= count) x += p[i]
-            fallen[i] = total < 0 ? 60 * x : (60 * total * x - 60 * total * x % sum) / sum
+            rain[i] = total < 0 ? 60 * x : (60 * total * x - 60 * total * x % sum) / sum
+            fallen[i] = cut(rain[i], r)
         }
         all = (fallen[nq] - fallen[nq] % 60) / 60
         i = 1 + chance(count)                       # around the end of an interval, or anywhere
@@ -1124,29 +1133,293 @@ awk -v n="$basins" -v scratch="$scratch" '
         if (uniform < 0) uniform = 0
         if (uniform > 200000) uniform = 200000
         deck = scratch "/basin." k
-        printf "*FREE\nIT %d,,,%d\nKK A\nBA 1\nUI .01\nLU %s,%s\n", minutes, nq, inches(initial), inches(uniform) >deck
+        printf "*FREE\nIT %d,,,%d\n", minutes, nq >deck
+        if (k % 2) {
+            text = "JR PREC"
+            for (r = 1; r <= ratios; r++) text = text sprintf(",%d.%02d", (ratio[r] - ratio[r] % 100) / 100, ratio[r] % 100)
+            print text >deck
+        }
+        printf "KK A\nBA 1\nUI .01\nLU %s,%s\n", inches(initial), inches(uniform) >deck
         if (total >= 0) print "PB " inches(total) >deck
         for (i = 1; i <= count; i++) print "PI " inches(p[i]) >deck
         print "ZZ" >deck
         close(deck)
-        text = ""
-        for (i = 1; i <= nq; i++) {
-            left = above(fallen[i], 60 * initial) - above(fallen[i - 1], 60 * initial)
-            text = text (i > 1 ? " " : "") sprintf("%.0f", above(left, minutes * uniform))
+        print nq, ratios
+        for (r = 1; r <= ratios; r++) {
+            text = ""
+            for (i = 1; i <= nq; i++) {
+                left = above(cut(rain[i], ratio[r]), 60 * initial) - above(cut(rain[i - 1], ratio[r]), 60 * initial)
+                text = text (i > 1 ? " " : "") sprintf("%.0f", above(left, minutes * uniform))
+            }
+            print text
         }
-        print nq
-        print text
     }
     BEGIN {
         seed = 20240302
         for (k = 1; k <= n; k++) one(k)
     }' >"$scratch/excess"
 for ((k = 1; k <= basins; k++)); do
-    read -r nq && read -r text || break
-    got=$("$prog" --full --ordinates "$nq" <"$scratch/basin.$k" | sed -n 2p)
-    check "losses, basin $k" "$text" "$got"
+    read -r nq count || break
+    for ((r = 1; r <= count; r++)); do
+        read -r text
+        got=$("$prog" --full --ordinates "$nq" --ratio "$r" <"$scratch/basin.$k" | sed -n 2p)
+        check "losses, basin $k, ratio $r" "$text" "$got"
+    done
 done <"$scratch/excess"
 check 'as many basins as were asked for' $((basins + 1)) "$k"
+
+# ---- Ratios (document 02, CR 3) -------------------------------------------
+
+# jr FIELDS: a deck whose JR stands on line 3.  QI knows no ratio.
+jr() { printf '%sJR %s\\nKK A\\nQI 1\\nZZ\\n' "$free" "$1"; }
+one_a=${one%'END 1\n'}
+# under RATIO...: the listing of that deck
+under() {
+    local r
+    for r in "$@"; do printf '%s' "RATIO $r\n$one_a"; done
+    printf '%s' 'END 1\n'
+}
+# takes FIELDS RATIO...: such a deck is accepted
+takes() {
+    local fields=$1
+    shift
+    lists "$(under "$@")" "$(jr "$fields")"
+}
+
+# the deck of document 01
+jr_pond=${pond/'KK UP'/'JR PREC,1.00\nKK UP'}
+lists "RATIO 1.00\n$pond_list" "$jr_pond"
+lists "RATIO 1.00\n${pond_list%'END 4\n'}RATIO 1.00\n$pond_list" "${jr_pond/1.00/'1,1.'}"
+# 1.50: 0.75, 0.45, 0.15 inch leave 0.15, 0.35, 0.05; 0.50: 0.25, 0.15, 0.05 fill
+pond_up='UP 1 1.50 4.10 2 462000000\nRIV 4 1.50 3.13 3 511349112\nSIDE 2 0.00 2.00 2 360000000\nOUT 3 1.50 5.13 3 871349112\n'
+pond_down='UP 1 1.50 0.00 1 0\nRIV 4 1.50 0.00 1 0\nSIDE 2 0.00 2.00 2 360000000\nOUT 3 1.50 2.00 2 360000000\n'
+lists "RATIO 1.50\n${pond_up}RATIO 0.50\n${pond_down}END 4\n" "${jr_pond/1.00/'1.5,.5'}"
+lists "RATIO 0.50\n${pond_down}RATIO 1.00\n${pond_list%'END 4\n'}RATIO 1.50\n${pond_up}END 4\n" "${jr_pond/1.00/'.5,1,1.5'}"
+flows '90000000 246000000 114000000 12000000' "${jr_pond/1.00/'1.5,.5'}" 1 1
+flows '90000000 126000000 187846153 107502959' "${jr_pond/1.00/'1.5,.5'}" 2 1
+flows '0 0 0 0' "${jr_pond/1.00/'1.5,.5'}" 2 2
+flows '60000000 120000000 120000000 60000000' "${jr_pond/1.00/'1.5,.5'}" 4 2
+flows '60000000 120000000 120000000 60000000' "${jr_pond/1.00/'1.5,.5'}" 0 0
+flows '60000000 147692307 202082840 104788348' "${jr_pond/1.00/'.5,1,1.5'}" 0 2
+flows '90000000 246000000 114000000 12000000' "${jr_pond/1.00/'.5,1,1.5'}" 1 0
+flows '150000000 246000000 307846153 167502959' "${jr_pond/1.00/'.5,1,1.5'}" 0 3
+
+# spelling
+takes PREC,0.01 0.01
+takes PREC,9.99 9.99
+takes PREC,0.05 0.05
+takes PREC,.5 0.50
+takes PREC,1. 1.00
+takes 'PREC +1.5' 1.50
+takes PREC,000000001 1.00
+takes PREC,0000009.99 9.99
+takes 'PREC , 1 , 2' 1.00 2.00
+takes 'PREC 1 2,3' 1.00 2.00 3.00
+takes PREC,1,2,,, 1.00 2.00
+takes PREC,1,,,,,,,,,,,,, 1.00
+takes PREC,1,1,1 1.00 1.00 1.00
+takes PREC,9,8,7,6,5,4,3,2,1 9.00 8.00 7.00 6.00 5.00 4.00 3.00 2.00 1.00
+takes PREC,.01,.02,.03,.04,.05,.06,.07,.08,.09,,, 0.01 0.02 0.03 0.04 0.05 0.06 0.07 0.08 0.09
+lists "$(under 1.50)" "${free}JRPREC,1.50\n${inflow}ZZ\n"
+fix_jr="$(fixed IT 60 '' '' 4)\n"                   # 1 line
+fix_a="KK A\n$(fixed QI 1)\nZZ\n"
+lists "$(under 1.50)" "$fix_jr$(fixed JR PREC 1.50)\n$fix_a"
+lists "$(under 1.50)" "${fix_jr}JR PREC 1.50\n$fix_a"
+lists "$(under 1.50)" "${fix_jr}JRPREC  +01.5\n$fix_a"
+lists "$(under 1.00 2.00 3.00 4.00 5.00 6.00 7.00 8.00 9.00)" "$fix_jr$(fixed JR PREC 1 2 3 4 5 6 7 8 9)\n$fix_a"
+
+# where it stands
+lists "$(under 1.50)" "${free}KM\n\n   \n*FIX\n*FREE\nJR PREC,1.5\nKM\n\n${inflow}ZZ\n"
+lists "$(under 1.50)" "${free}*FIX\n$(fixed JR PREC 1.5)\n*FREE\n${inflow}ZZ\n"
+refused 5 1 'JR PREC,1\n'
+refused 5 1 'JR\n'
+refused 5 2 "*FREE\nJR PREC,1\nIT 60,,,4\n${inflow}ZZ\n"
+refused 5 2 "*FREE\nJR FLOW,x\nIT 60,,,4\n${inflow}ZZ\n"
+refused 5 4 "${free}KK A\nJR PREC,1\nQI 1\nZZ\n"
+refused 5 5 "$free${inflow}JR PREC,1\nZZ\n"
+refused 5 5 "$free${inflow}JR FLOW,0\nZZ\n"
+refused 5 8 "${free}JR PREC,1\n$inflow${inflow}JR PREC,1\nZZ\n"
+refused 5 4 "${free}JR PREC,1\nJR PREC,1\n${inflow}ZZ\n"
+refused 5 4 "${free}JR PREC,1\nJR PREC,2\n${inflow}ZZ\n"
+refused 5 6 "${free}JR PREC,1\nKM\n\nJR PREC,2\n${inflow}ZZ\n"
+for line in JR 'JR FLOW,1' 'JR PREC' 'JR PREC,x' 'JR PREC,0' 'JR PREC,1,2,3,4,5,6,7,8,9,10'; do
+    refused 5 4 "${free}JR PREC,1\n$line\n${inflow}ZZ\n"
+done
+refused 6 3 "${free}JR FLOW,1\nJR PREC,1\n${inflow}ZZ\n"    # the first is the first
+refused 5 4 "${free}JR PREC,1\nIT 60,,,4\n"
+refused 5 4 "${free}JR PREC,1\nID\n"
+refused 5 4 "${free}JR PREC,1\nQI 1\n"
+refused 15 4 "${free}JR PREC,1\nZZ\n"
+refused 16 0 "${free}JR PREC,1\n"
+refused 16 0 "${free}JR PREC,1\n$inflow"
+refused 4 3 "${free}jr PREC,1\n"
+refused 4 3 "${free}J\n"
+refused 4 3 "${free} JR PREC,1\n"
+refused 3 3 "${free}JR PREC,1\t\n"                  # 3 before 5, 6, 7
+refused 3 1 'JR FLOW\x80\n'
+refused 3 3 "${free}JR PREC,1$(times 74 ' ')\n"
+
+# the word (6)
+for fields in '' , ,1 ,PREC,1 1 1.00 0 prec,1 Prec,1 FLOW,1 PRECX,1 PREC1,1 PRE,1 P,1 1,PREC \
+    '"PREC",1' PREC.,1 -PREC,1 PREC-1 'P REC 1' FLOW FLOW,0 FLOW,10 FLOW,x ,0 ,10.00 0,0 PRECPREC; do
+    refused 6 3 "$(jr "$fields")"
+done
+refused 6 3 "${free}JR\n${inflow}ZZ\n"
+refused 6 2 "$fix_jr$(fixed JR '' PREC 1)\n$fix_a"
+refused 6 2 "$fix_jr$(fixed JR PREC1 1)\n$fix_a"
+refused 6 2 "${fix_jr}JR PREC,1.00\n$fix_a"
+refused 6 2 "${fix_jr}JR PR EC1.00\n$fix_a"
+refused 6 2 "${fix_jr}JR     PREC 1.00\n$fix_a"     # PR, EC 1.00
+# ratios that are none (6)
+for fields in 1.000 0.005 9.995 9.999 .000 x 1x 1.2.3 . - + 1- 1,x x,1 0000000001 1234567890 000000000.1 \
+    1,PREC PREC,1 1,2,3,4,5,6,7,8,9,10 1,2,3,4,5,6,7,8,9,0 ,,,,,,,,,1 0,x 10,1.000 x,0 -1,x ,x 1,,x; do
+    refused 6 3 "$(jr "PREC,$fields")"
+done
+refused 6 2 "$fix_jr$(fixed JR PREC '1 5')\n$fix_a"
+refused 6 2 "$fix_jr$(fixed JR PREC 1,5)\n$fix_a"
+# none, or over the limits (7)
+for fields in '' , ,,, ,,,,,,,,,,,, 0 0.00 -0 .0 10 10.00 10. -1 -.01 -9.99 99.99 999999999 9999999.99 \
+    ,1 1,,2 1,0 0,1 1,2,10 1,2,3,4,5,6,7,8,10 1,2,3,4,5,6,7,,9 ,,,,,,,,1; do
+    refused 7 3 "$(jr "PREC,$fields")"
+done
+refused 7 3 "$(jr PREC)"
+refused 7 2 "$fix_jr$(fixed JR PREC)\n$fix_a"
+refused 7 2 "$fix_jr$(fixed JR PREC '' 1)\n$fix_a"
+refused 7 2 "$fix_jr$(fixed JR PREC 1 '' 1)\n$fix_a"
+refused 7 2 "$fix_jr$(fixed JR PREC '' '' '' '' '' '' '' '' 1)\n$fix_a"
+
+# The cut: of the running sums, in depth units.  0.0001 inch is 60 units; the
+# unit graph makes a flow unit of each.
+# drops RATIO PI [MORE]: the deck
+drops() { printf '%sJR PREC,%s\\nKK A\\nBA 1\\nUI .01\\nLU\\nPI %s\\n%sZZ\\n' "$free" "$1" "$2" "${3:-}"; }
+each=.0001,.0001,.0001,.0001
+flows '60 60 60 60' "$(drops 1 $each)"
+flows '19 20 20 20' "$(drops .33 $each)"            # 19.8 39.6 59.4 79.2
+flows '0 1 0 1' "$(drops .01 $each)"                # 0.6 1.2 1.8 2.4
+flows '599 599 600 599' "$(drops 9.99 $each)"       # 599.4 1198.8 1798.2 2397.6
+flows '60 61 60 61' "$(drops 1.01 $each)"           # 60.6 121.2 181.8 242.4
+flows '59 59 60 59' "$(drops .99 $each)"            # 59.4 118.8 178.2 237.6
+flows '0 0 0 1' "$(drops .01 .0001,,,.0001)"        # dry intervals carry it on
+flows '0 1 0 0' "$(drops .01 .0001,.0001)"          # nothing behind the last one
+flows '0 0 0 0' "$(drops .01 .0001)"
+# behind PB: 60 units in sevenths are 8 17 25 34 42 51 60
+seventh() { printf '*FREE\\nIT 60,,,7\\nJR PREC,%s\\nKK A\\nBA 1\\nUI .01\\nLU\\nPB %s\\nPI 1,1,1,1,1,1,1\\nZZ\\n' "$1" "${2:-.0001}"; }
+flows '8 9 8 9 8 9 9' "$(seventh 1)"
+flows '2 3 3 3 2 3 3' "$(seventh .33)"              # a total of 19 would give 2 3 3 2 3 3 3
+flows '4 4 4 5 4 4 5' "$(seventh .5)"
+flows '16 18 16 18 16 18 18' "$(seventh 2)"         # 120 units would give 17 17 17 17 17 17 18
+flows '0 0 0 0 0 0 0' "$(seventh .01)"              # 0.60, and 18 knows no ratio
+flows '0 0 0 0 0 0 0' "$(seventh 9.99 0)"
+# each ratio has its own cut, whatever stood before it
+flows '0 1 0 1' "$(drops 9.99,.33,.01 $each)"
+flows '19 20 20 20' "$(drops 9.99,.33,.01 $each)" 1 2
+flows '599 599 600 599' "$(drops 9.99,.33,.01 $each)" 1 1
+# losses take from what the ratio makes of the rain: 0.60 inch, LU 0.50, 0.10
+day() { printf '%sJR PREC,%s\\nKK A\\nBA 1\\nUI .01\\nLU .5,.1\\nPI .6\\nZZ\\n' "$free" "$1"; }
+flows '0 0 0 0' "$(day 1)"
+flows '180000 0 0 0' "$(day 1.5)"                   # 0.90 - 0.50 - 0.10
+flows '6000 0 0 0' "$(day 1.02 | sed 's/LU .5,.1/LU .5,.102/')"
+flows '0 0 0 0' "$(day .5)"
+# the greatest rain: 20 inches 9.99 times, and a hundred
+flows '119880000 119880000 119880000 119880000' "$(drops 9.99 20,20,20,20)"
+flows '599400000 0 0 0' "$(drops 9.99 20 'PB 100\n')"
+lists 'RATIO 9.99\nA 1 1.00 9.99 1 599400000\nEND 1\n' "$(drops 9.99 20 'PB 100\n')"
+# one ratio's storm does not reach into the next block, nor into inflow
+lists 'RATIO 2.00\nA 2 0.00 1.00 1 60000000\nB 1 1.00 2.00 1 120000000\nC 3 1.00 3.00 1 180000000\nRATIO 0.50\nA 2 0.00 1.00 1 60000000\nB 1 1.00 0.50 1 30000000\nC 3 1.00 1.50 1 90000000\nEND 3\n' \
+    "${free}JR PREC,2,.5\n${inflow}KK B\nBA 1\nPI 1\nLU\nUI 1\nKK C\nHC 2\nZZ\n"
+# block names that look like other lines
+lists 'RATIO 0.07\nRATIO 2 0.00 1.00 1 60000000\nEND 1\n' "${free}JR PREC,.07\nKK RATIO\nQI 1\nZZ\n"
+
+# rooms: records ratio by ratio, 32 bytes a block and ratio, the named ratio
+inch="${free}JR PREC,1,2\nKK A\nBA 1\nPI 1\nLU\nUI 1\nZZ\n"
+rec_one=412020202020010064000000008793030000000001000000 rec_one+=0087930300000000
+rec_two=412020202020010064000000000e27070000000001000000 rec_two+=000e270700000000
+full "4 1 2\n120000000 0 0 0\n$rec_one$rec_two\n0\n" "$inch" --ordinates 4 --records 64
+full "4 1 2\n60000000 0 0 0\n$rec_one$rec_two\n0\n" "$inch" --ordinates 4 --records 64 --ratio 1
+full "4 1 2\n120000000 0 0 0 0\n$rec_one${rec_two}00\n0\n" "$inch" --ordinates 5 --records 65 --ratio 2 --named 1
+full "4 1 2\n60000000 0 0 0\n$rec_two$rec_one\n0\n" "${inch/1,2/2,1}" --ordinates 4 --records 64
+full "4 1 2\n120000000 0 0 0$(times 296 ' 0')\n$rec_one$rec_two$(zeros 57536)\n0\n" "$inch"
+full "REFUSED 17 0\n0 0 0 0\n$(zeros 63)\n0\n" "$inch" --ordinates 4 --records 63
+full "REFUSED 17 0\n0 0 0 0\n$(zeros 32)\n0\n" "$inch" --ordinates 4 --records 32 --ratio 1
+full "REFUSED 17 0\n0 0 0 0\n$(zeros 64)\n0\n" "$inch" --ordinates 4 --records 64 --ratio 3
+full "REFUSED 17 0\n0 0 0 0\n$(zeros 96)\n0\n" "$inch" --ordinates 4 --records 96 --ratio 3
+full "REFUSED 17 0\n0 0 0 0\n$(zeros 64)\n0\n" "$inch" --ordinates 4 --records 64 --named 2 --ratio 1
+full "REFUSED 17 0\n0 0 0\n$(zeros 64)\n0\n" "$inch" --ordinates 3 --records 64 --ratio 1
+full "REFUSED 17 0\n0 0 0 0\n\n0\n" "$inch" --ordinates 4 --records 0 --ratio 4294967295
+full "REFUSED 1 0\n0\n00\n0\n" "$inch" --ordinates 1 --records 1 --work 5999 --ratio 9
+full "4 1 1\n60000000 0 0 0\n$rec_a\n0\n" "$small" --ordinates 4 --records 32 --ratio 1    # no JR: one ratio
+full "REFUSED 17 0\n0 0 0 0\n$(zeros 32)\n0\n" "$small" --ordinates 4 --records 32 --ratio 2
+full "4 1 1\n60000000 0 0 0\n$rec_a\n0\n" "$(jr PREC,3)" --ordinates 4 --records 32
+full "4 1 3\n60000000 0 0 0\n$rec_a$rec_a$rec_a\n0\n" "$(jr PREC,3,2,1)" --ordinates 4 --records 96 --named 1 --ratio 2
+full "REFUSED 17 0\n0 0 0 0\n$(zeros 95)\n0\n" "$(jr PREC,3,2,1)" --ordinates 4 --records 95
+full "REFUSED 15 4\n\n\n0\n" "${free}JR PREC,1\nZZ\n" --ordinates 0 --records 0 --ratio 9
+got=$(printf '%b' "${free}JR PREC,1,1,1,1,1,1,1,1,1\n$inflow${routed}ZZ\n" | run | grep -c '^R 4 ')
+check 'nine times 200 blocks' 1791 "$got"
+got=$(printf '%b' "${free}JR PREC,1,1,1,1,1,1,1,1,1\n$inflow${routed}ZZ\n" | run --full --ordinates 4 --records 57599 | head -n 1)
+check 'a byte less than nine times 200 records' 'REFUSED 17 0' "$got"
+got=$(printf '%b' "${free}JR PREC,1,1,1,1,1,1,1,1,1\n$inflow${routed}ZZ\n" | run --full --ordinates 4 | head -n 1)
+check 'nine times 200 records' '4 200 9' "$got"
+
+# 13 under a ratio: the earliest line of any, not that of the first.  Under 2.00
+# A has 120,000 cfs (KK B, line 10), B has 100,020 under 1.00 (ZZ, line 15).
+later() { printf '%sJR PREC,%s\\nKK A\\nBA 1\\nPB 100\\nPI 1\\nLU\\nUI 600\\nKK B\\nBA 1\\nPI 20\\nLU\\nUI 5001\\nZZ\\n' "$free" "$1"; }
+refused 13 15 "$(later 1)"
+refused 13 10 "$(later 2)"
+refused 13 10 "$(later 1,2)"
+refused 13 10 "$(later 2,1)"
+refused 13 10 "$(later .5,1,2,1,.5)"
+refused 15 15 "$(later .99)"                        # 99,019.80: two are held
+refused 13 15 "$(later .99,1)"                      # 13 before 15 of that line
+refused 13 15 "$(later 1,.99)"
+refused 13 10 "$(later .99,2)"
+full "REFUSED 13 10\n0 0 0 0\n$(zeros 64)\n0\n" "$(later 1,2)" --ordinates 4 --records 64 --named 1 --ratio 1
+full "REFUSED 13 10\n\n\n0\n" "$(later 1,2)" --ordinates 0 --records 0 --named 9 --ratio 9
+# what stands behind that line is hidden, by whatever ratio
+gate='KK A\nBA 1\nPB 100\nPI 1\nLU\nUI 600\nKK B\n'  # 6 lines and the next KK
+for rest in XX 'ID' 'QI -1' 'QI 1,1,1,1,1' 'BA x' '\x80' 'HC 9' 'ZZ' ''; do
+    refused 13 10 "${free}JR PREC,1,2\n$gate$rest\n"
+done
+refused 4 11 "${free}JR PREC,1,1.66\n${gate}XX\n"   # 99,600 cfs
+refused 13 10 "${free}JR PREC,1,1.67\n${gate}XX\n"
+refused 9 11 "${free}JR PREC,1,1.66\n${gate}ZZ\n"
+refused 16 0 "${free}JR PREC,1,1.66\n$gate"
+refused 13 10 "${free}JR PREC,1,1.67\n$gate"
+# and what stands before it comes first
+refused 4 9 "${free}JR PREC,1,2\n${gate/UI/XX}ZZ\n"
+refused 10 6 "${free}JR PREC,1,2\nKK H\nHC 2\n${gate}QI 1\nZZ\n"
+refused 6 10 "${free}JR PREC,1,2\n${gate/KK B/KK ,}ZZ\n"    # 6 of the closing line
+refused 18 10 "${free}JR PREC,1,2\n${gate/PI 1/PI 0}ZZ\n"
+refused 18 10 "${free}JR PREC,.01\n${gate/PI 1/PI 0}ZZ\n"
+# 13 and 14: the 200th block under 2.00, the 201st KK under both
+refused 14 408 "${free}JR PREC,1\n$inflow$(times 198 'KK R\nRM 1,1,.2\n')${gate}QI 1\nZZ\n"
+refused 13 408 "${free}JR PREC,1,2\n$inflow$(times 198 'KK R\nRM 1,1,.2\n')${gate}QI 1\nZZ\n"
+refused 13 408 "${free}JR PREC,2,1\n$inflow$(times 198 'KK R\nRM 1,1,.2\n')${gate}QI 1\nZZ\n"
+# 11: twenty held, the gate is the 21st, under whatever ratio
+refused 11 50 "${free}JR PREC,1,2\n$(times 20 "$inflow")${gate}QI 1\nZZ\n"
+# at the limit, and over it, under one ratio alone
+flood() { printf '%sJR PREC,%s\\nKK A\\nBA 1\\nPB 100\\nPI 1\\nLU\\nUI %s\\nZZ\\n' "$free" "$1" "$2"; }
+lists 'RATIO 2.00\nA 1 1.00 100000.00 1 6000000000000\nEND 1\n' "$(flood 2 500)"
+refused 13 10 "$(flood 2 500.01)"
+refused 13 10 "$(flood 1.99,2 500.01)"
+lists 'RATIO 1.99\nA 1 1.00 99501.99 1 5970119400000\nEND 1\n' "$(flood 1.99 500.01)"
+# one flow unit: 0.0001 inch in one minute, 119 units lost
+unit() { printf '*FREE\\nIT 1,,,2\\nJR PREC,%s\\nKK A\\nBA 1\\nPI .0001\\nLU ,.0119\\nUI .01\\nKK B\\nQI 100000\\nKK C\\nHC 2\\nZZ\\n' "$1"; }
+lists 'RATIO 1.99\nA 1 1.00 0.00 1 0\nB 2 0.00 100000.00 1 6000000000000\nC 3 1.00 100000.00 1 6000000000000\nEND 3\n' "$(unit 1.99)"
+refused 13 13 "$(unit 2)"
+refused 13 13 "$(unit 1.99,2)"
+refused 13 13 "$(unit 2,1.99)"
+# A smaller ratio may pass where a greater one does not: of six shares of 10
+# units 0.03 gives the fourth a unit (0.9, 1.2), 0.04 the third and the fifth.
+drip() { printf '*FREE\\nIT 60,,,6\\nJR PREC,%s\\nKK A\\nBA 1\\nPB .0001\\nPI 1,1,1,1,1,1\\nLU\\nUI .01\\nKK B\\nQI ,,,100000\\nKK C\\nHC 2\\nZZ\\n' "$1"; }
+flows '0 0 1 6000000000000 1 0' "$(drip .04)"
+flows '0 0 0 1 0 0' "$(drip .03 | sed 's/100000/1/')" 1
+refused 13 14 "$(drip .03)"
+refused 13 14 "$(drip .04,.03)"
+refused 13 14 "$(drip .03,.04)"
+# sums beyond 64 bits before 13 is met
+huge="KK A\nBA 1\nLU\n$(times 30 "PI $(times 9 20,)20\n")$(times 30 "UI $(times 4 99999.99,)99999.99\n")ZZ\n"
+refused 13 67 "*FREE\nIT 1440,,,300\nJR PREC,.01,9.99\n$huge"
+refused 13 67 "*FREE\nIT 1440,,,300\nJR PREC,9.99,9.99,9.99,9.99,9.99,9.99,9.99,9.99,9.99\n$huge"
 
 # ---- Bundles and cases ---------------------------------------------------
 
@@ -1179,16 +1452,23 @@ bundle --bundle "$one--\n" '2, said' "$(sized "$small")\x01\x00\x00"
 bundle --bundle "$one--\n" '2, said' "$(sized "$small")\x01\x00\x00\x00"
 bundle --bundle "" '2, said' "$(le4 100000)$long"
 bundle --bundle "" '2, said' "$(le4 4000000000)ZZ"
-case_of() { printf '%s%s%s%s%s' "$(le4 "$1")" "$(le4 "$2")" "$(le4 "$3")" "$(le4 "$4")" "$(sized "$5")"; }
+case_of() { # block, ratio, work words, ordinates, record bytes, deck
+    printf '%s%s%s%s%s%s' "$(le4 "$1")" "$(le4 "$2")" "$(le4 "$3")" "$(le4 "$4")" "$(le4 "$5")" "$(sized "$6")"
+}
 bundle --cases '' "$ok" ''
-bundle --cases "4 1\n60000000 0 0 0 0\n${rec_a}00\n0\n--\n" "$ok" "$(case_of 0 6000 5 33 "$small")"
-bundle --cases "4 4\n0 27692307 82082840 44788348\n$rec_up$rec_riv$rec_side$rec_out\n0\n--\nREFUSED 1 0\n0\n00\n0\n--\nREFUSED 17 0\n\n\n0\n--\nREFUSED 2 0\n0 0\n0000\n0\n--\n4 1\n60000000 0 0 0\n$rec_a\n0\n--\n" "$ok" \
-    "$(case_of 2 6000 4 128 "$pond")$(case_of 0 5999 1 1 "$pond")$(case_of 0 9000 0 0 "$pond")$(case_of 0 6000 2 2 "$long")$(case_of 1 6000 4 32 "$small")"
+bundle --cases "4 1 1\n60000000 0 0 0 0\n${rec_a}00\n0\n--\n" "$ok" "$(case_of 0 0 6000 5 33 "$small")"
+bundle --cases "4 1 2\n60000000 0 0 0\n$rec_one$rec_two\n0\n--\nREFUSED 17 0\n0 0 0 0\n$(zeros 64)\n0\n--\nREFUSED 17 0\n0 0 0 0\n$(zeros 63)\n0\n--\n" "$ok" \
+    "$(case_of 1 1 6000 4 64 "$inch")$(case_of 1 3 6000 4 64 "$inch")$(case_of 1 0 6000 4 63 "$inch")"
+bundle --cases "4 1 2\n120000000 0 0 0\n$rec_one$rec_two$(zeros 71936)\n0\n--\n" "$ok" "$(case_of 0 0 6000 4 72000 "$inch")"
+bundle --cases "4 4 1\n0 27692307 82082840 44788348\n$rec_up$rec_riv$rec_side$rec_out\n0\n--\nREFUSED 1 0\n0\n00\n0\n--\nREFUSED 17 0\n\n\n0\n--\nREFUSED 2 0\n0 0\n0000\n0\n--\n4 1 1\n60000000 0 0 0\n$rec_a\n0\n--\n" "$ok" \
+    "$(case_of 2 1 6000 4 128 "$pond")$(case_of 0 0 5999 1 1 "$pond")$(case_of 0 0 9000 0 0 "$pond")$(case_of 0 0 6000 2 2 "$long")$(case_of 1 0 6000 4 32 "$small")"
 bundle --cases '' '2, said' "$(le4 1)"
-bundle --cases '' '2, said' "$(le4 1)$(le4 6000)$(le4 1)$(le4 1)$(le4 3)ZZ"
+bundle --cases '' '2, said' "$(le4 1)$(le4 0)$(le4 6000)$(le4 1)$(le4 1)"
+bundle --cases '' '2, said' "$(le4 1)$(le4 0)$(le4 6000)$(le4 1)$(le4 1)$(le4 3)ZZ"
 check 'an unknown option' 'status 2, said' "$(run --nonsense </dev/null)"
 check 'an option without its number' 'status 2, said' "$(run --full --named </dev/null)"
 check 'an option with a bad number' 'status 2, said' "$(run --full --named 1x </dev/null)"
+check 'a ratio that is no number' 'status 2, said' "$(run --full --ratio 1.5 </dev/null)"
 check 'two modes' 'status 2, said' "$(run --full --cases </dev/null)"
 
 # The counter of losses, on blocks whose way and whose wrong rules are known:
@@ -1213,6 +1493,29 @@ printf '%b' "$known" | "$losses" >"$scratch/said"
 check 'losses: a count of 0 fails' 1 $?
 printf '%b' "$(sized "$pond")\x01" | "$losses" >"$scratch/said" 2>&1
 check 'losses: input cut short' 2 $?
+
+# The counter of ratios.  Of the runoff blocks of the first three decks, UP under
+# 1.50 and 0.50, four drops under 0.33 and sevenths under 0.33, all have another
+# hydrograph by (b); the last two by (a) and by (c); the last by (d), which asks
+# for a total; UP has one by (e) twice, the others have no loss.  The fourth deck
+# has no JR.  Refused with 13: one whose first ratio alone is refused later, one
+# beside 15, one by a unit under its first ratio, one by a unit under its second,
+# the smaller.
+known=$(sized "${jr_pond/1.00/'1.5,.5'}")$(sized "$(drops .33 $each)")$(sized "$(seventh .33)")
+known+=$(sized "$small")$(sized "$(later 1,2)")$(sized "$(later .99,1)")$(sized "$(unit 2,1.99)")$(sized "$(drip .04,.03)")
+# no JR, one, two to eight, nine; 0.01, 9.99, 1.00; equal, rising, falling; no
+# runoff; once at the limit; blocks; the wrong rules a to e; refused with 13: all,
+# the first ratio elsewhere or not at all, the last likewise, beside 14, beside
+# 15, smaller, by a unit; refusals that are wrong
+expected='1,2,1,0,0,0,0,0,0,1,0,0,3 1,1 1,3 1,1 1,0 1,2 0,4,1,1,0,1,0,1,1,2,0,'
+got=$(printf '%b' "$known" | "$ratios" | awk '$1 ~ /^[0-9]/ { printf "%s,", $1 (substr($0, 10, 8) ~ /[0-9]/ ? " " $2 : "") }')
+check 'ratios counted' "$expected" "$got"
+got=$(printf '%b' "$known" | "$ratios" | grep -c ': MISSING$')
+check 'ratios: what is missing' 11 "$got"
+printf '%b' "$known" | "$ratios" >"$scratch/said"
+check 'ratios: a count of 0 fails' 1 $?
+printf '%b' "$(sized "$pond")\x01" | "$ratios" >"$scratch/said" 2>&1
+check 'ratios: input cut short' 2 $?
 
 # ---- Fuzz ----------------------------------------------------------------
 

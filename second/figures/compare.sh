@@ -32,7 +32,7 @@ for printed in "$here"/*.printed; do
             {
                 what = ""
                 for (i = 6; i <= NF; i++) what = what (i > 6 ? " " : "") $i
-                if (head !~ /^[0-9]+ [0-9]+$/ || $2 > have) {
+                if (head !~ /^[0-9]+ [0-9]+ [0-9]+$/ || $2 > have) {
                     printf "FAIL %s block %s ordinate %s: no ordinate (%s)\n", name, block, $2, head
                     next
                 }

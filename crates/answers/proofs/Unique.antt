@@ -21,9 +21,10 @@ one-refusal κs a x y e f p q =
     let same = p ∙ sym q in
     (answer-told x y (ap (λ (o : Outcome). o .answer) same), ap (λ (o : Outcome). o .work) same, ap (λ (o : Outcome). o .ordinates) same, ap (λ (o : Outcome). o .records) same)
 
--- nq, blocks, named, work, ordinates, records
+-- nq, blocks, ratios, named, ratio, work, ordinates, records
 pub one-settlement : Once settle.ps settle.r settle-says.Post
-    (λ κs x y e f. (x ≡ y) × (now (e .1 .1 .1 .0) ≡ now (f .1 .1 .1 .0)) × (now (e .1 .1 .1 .1 .0) ≡ now (f .1 .1 .1 .1 .0)) × (now (e .1 .1 .1 .1 .1 .0) ≡ now (f .1 .1 .1 .1 .1 .0)))
+    (λ κs x y e f.
+    (x ≡ y) × (now (e .1 .1 .1 .1 .1 .0) ≡ now (f .1 .1 .1 .1 .1 .0)) × (now (e .1 .1 .1 .1 .1 .1 .0) ≡ now (f .1 .1 .1 .1 .1 .1 .0)) × (now (e .1 .1 .1 .1 .1 .1 .1 .0) ≡ now (f .1 .1 .1 .1 .1 .1 .1 .0)))
 one-settlement κs a x y e f p q =
     let same = p ∙ sym q in
     (answer-told x y (ap (λ (o : Outcome). o .answer) same), ap (λ (o : Outcome). o .work) same, ap (λ (o : Outcome). o .ordinates) same, ap (λ (o : Outcome). o .records) same)

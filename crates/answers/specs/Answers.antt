@@ -5,27 +5,26 @@
 --     sizeRefusal                     what is refused for the sizes, before the deck is read
 --     settledAs                       what becomes of a deck that is sound
 --     zeros-refuse                    zeros in all of it are a refusal; zeros-accept: zeros in the work words alone an acceptance
-use Prim.Native.Nat.{ℕ, _*_}
+use Prim.Native.Nat.{ℕ}
 use mathlib.Core.Path.{_≡_}
 use mathlib.Core.Bool.{Bool, _||_}
 use mathlib.Core.List.{List}
 use lib.ListN.{length, replicate}
 use Rattle.meaning.specs.Words.{_<?_, if_then_else_, met, first}
-use Rattle.meaning.specs.Results.{recordSize}
 use Rattle.meaning.specs.Run as run
-use Rattle.meaning.specs.Run.{Outcome, Lent, refused, workSize, deckSize}
+use Rattle.meaning.specs.Run.{Outcome, Lent, recordBytes, refused, workSize, deckSize}
 use Rattle.answers.specs.declared.Answer.{Answer}
 use Rattle.answers.specs.declared.Answer.the-variants as answer
 
 abbrev pub answerIs : Answer → run.Answer
-answerIs (answer.Accepted nq blocks) = run.Accepted nq blocks
+answerIs (answer.Accepted nq blocks ratios) = run.Accepted nq blocks ratios
 answerIs (answer.Refused number line) = run.Refused number line
 
 -- an answer is told by what it means
 pub answer-told : (x y : Answer) → answerIs x ≡ answerIs y → x ≡ y
-answer-told (answer.Accepted n k) (answer.Accepted m l) h = cc
-answer-told (answer.Accepted n k) (answer.Refused m l) h = cc
-answer-told (answer.Refused n k) (answer.Accepted m l) h = cc
+answer-told (answer.Accepted n k i) (answer.Accepted m l j) h = cc
+answer-told (answer.Accepted n k i) (answer.Refused m l) h = cc
+answer-told (answer.Refused n k) (answer.Accepted m l j) h = cc
 answer-told (answer.Refused n k) (answer.Refused m l) h = cc
 
 abbrev pub outcomeIs : Answer → (work ordinates records : List ℕ) → Outcome
@@ -34,19 +33,19 @@ outcomeIs a work ordinates records = record { answer = answerIs a; work = work; 
 abbrev pub lentAs : (work ordinates records : List ℕ) → Lent
 lentAs work ordinates records = record { work = length work; ordinates = length ordinates; records = length records }
 
--- what was lent is too short for so many ordinates and blocks, or the named block is above the count
-abbrev pub lacking : (nq blocks named ordinates records : ℕ) → Bool
-lacking nq blocks named ordinates records = (ordinates <? nq) || (records <? recordSize * blocks) || (blocks <? named)
+-- what was lent is too short for so many ordinates, blocks and ratios, or the named block or ratio is above its count
+abbrev pub lacking : (nq blocks ratios named ratio ordinates records : ℕ) → Bool
+lacking nq blocks ratios named ratio ordinates records = (ordinates <? nq) || (records <? recordBytes blocks ratios) || (blocks <? named) || (ratios <? ratio)
 
 -- 1: too few words to work in; 2: too long a deck
 abbrev pub sizeRefusal : (work deck : ℕ) → ℕ
 sizeRefusal work deck = first (met (work <? workSize) 1) (met (deckSize <? deck) 2)
 
--- a sound deck with so many ordinates and blocks: 17, or the results as they stand, with zeros in the words that the run worked in
-abbrev pub settledAs : (nq blocks named : ℕ) (work ordinates records : List ℕ) → Outcome
-settledAs nq blocks named work ordinates records =
-    if lacking nq blocks named (length ordinates) (length records) then refused 17 0 (lentAs work ordinates records) else
-    outcomeIs (answer.Accepted nq blocks) (replicate (length work) 0) ordinates records
+-- a sound deck with so many ordinates, blocks and ratios: 17, or the results as they stand, with zeros in the words that the run worked in
+abbrev pub settledAs : (nq blocks ratios named ratio : ℕ) (work ordinates records : List ℕ) → Outcome
+settledAs nq blocks ratios named ratio work ordinates records =
+    if lacking nq blocks ratios named ratio (length ordinates) (length records) then refused 17 0 (lentAs work ordinates records) else
+    outcomeIs (answer.Accepted nq blocks ratios) (replicate (length work) 0) ordinates records
 
 -- zeros in each of the three are a refusal
 module _ (number line : ℕ) (words flows bytes words′ flows′ bytes′ : List ℕ) where
@@ -55,7 +54,7 @@ module _ (number line : ℕ) (words flows bytes words′ flows′ bytes′ : Lis
   zeros-refuse w f b = rw (w, f, b)
 
 -- zeros in the words that the run worked in, and the results as they stand
-module _ (nq blocks : ℕ) (work work′ ordinates records : List ℕ) where
+module _ (nq blocks ratios : ℕ) (work work′ ordinates records : List ℕ) where
   pub zeros-accept : work′ ≡ replicate (length work) 0
-      → outcomeIs (answer.Accepted nq blocks) work′ ordinates records ≡ outcomeIs (answer.Accepted nq blocks) (replicate (length work) 0) ordinates records
+      → outcomeIs (answer.Accepted nq blocks ratios) work′ ordinates records ≡ outcomeIs (answer.Accepted nq blocks ratios) (replicate (length work) 0) ordinates records
   zeros-accept e = rw e

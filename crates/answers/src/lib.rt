@@ -10,9 +10,9 @@ pub const WORK: usize = 6_000;
 
 const DECK: usize = 60_000;
 
-// The answer to a deck: the ordinates of each hydrograph and the blocks, or the number and the line of the refusal.
+// The answer to a deck: the ordinates of each hydrograph, the blocks and the ratios, or the number and the line of the refusal.
 pub enum Answer {
-    Accepted(usize, usize),
+    Accepted(usize, usize, usize),
     Refused(u64, u64),
 }
 
@@ -45,35 +45,56 @@ pub fn refuse(
     Answer::Refused(number, line)
 }
 
-// Whether what was lent is too short for the results, or no such block is there to be named.
-fn lacks_room(nq: usize, blocks: usize, named: usize, ordinates: usize, records: usize) -> bool
-    requires { ⌜ blocks ≤ mostBlocks ⌝ }
-    ensures { λ r. ⌜ r ≡ lacking nq blocks named ordinates records ⌝ }
+// Whether what was lent is too short for the results, or no such block or ratio is there to be named.
+fn lacks_room(
+    nq: usize,
+    blocks: usize,
+    ratios: usize,
+    named: usize,
+    ratio: usize,
+    ordinates: usize,
+    records: usize,
+) -> bool
+    requires { ⌜ (blocks ≤ mostBlocks) × (ratios ≤ 9) ⌝ }
+    ensures { λ r. ⌜ r ≡ lacking nq blocks ratios named ratio ordinates records ⌝ }
 {
     if ordinates < nq {
         return true;
     }
-    if records < results::RECORD * blocks {
+    if records < results::RECORD * (blocks * ratios) {
         return true;
     }
-    blocks < named
+    if blocks < named {
+        return true;
+    }
+    ratios < ratio
 }
 
 // The end of a run whose deck is sound: refused by 17 where there is no room for the results, else accepted with the results as they stand.
 pub fn settle(
     nq: usize,
     blocks: usize,
+    ratios: usize,
     named: usize,
+    ratio: usize,
     work: &mut [u64],
     ordinates: &mut [u64],
     records: &mut [u8],
 ) -> Answer
-    requires { ⌜ blocks ≤ mostBlocks ⌝ }
-    ensures { λ a. ⌜ outcomeIs a (now (work .exit)) (now (ordinates .exit)) (now (records .exit)) ≡ settledAs nq blocks named (now (work .entry)) (now (ordinates .entry)) (now (records .entry)) ⌝ }
+    requires { ⌜ (blocks ≤ mostBlocks) × (ratios ≤ 9) ⌝ }
+    ensures { λ a. ⌜ outcomeIs a (now (work .exit)) (now (ordinates .exit)) (now (records .exit)) ≡ settledAs nq blocks ratios named ratio (now (work .entry)) (now (ordinates .entry)) (now (records .entry)) ⌝ }
 {
-    if lacks_room(nq, blocks, named, ordinates.len(), records.len()) {
+    if lacks_room(
+        nq,
+        blocks,
+        ratios,
+        named,
+        ratio,
+        ordinates.len(),
+        records.len(),
+    ) {
         return refuse(17, 0, work, ordinates, records);
     }
     slices::zero_words(work);
-    Answer::Accepted(nq, blocks)
+    Answer::Accepted(nq, blocks, ratios)
 }

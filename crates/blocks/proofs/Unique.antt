@@ -7,6 +7,13 @@ use denote.Ref.{now}
 use Rattle.sequences.specs.Contracts.{Once}
 use Rattle.meaning.specs.Blocks.{Time}
 use Rattle.blocks.specs.Cards.{blockOf}
+use Rattle.blocks.specs.Meant.{ratiosIs}
+use Rattle.blocks.proofs.no_ratios.Kinds as no-ratios
+use Rattle.blocks.proofs.no_ratios.Reads as no-ratios-says
+use Rattle.blocks.proofs.ratio_at.Kinds as ratio-at
+use Rattle.blocks.proofs.ratio_at.Reads as ratio-at-says
+use Rattle.blocks.proofs.under.Kinds as under
+use Rattle.blocks.proofs.under.Reads as under-says
 use Rattle.blocks.proofs.take_values.Kinds as take-values
 use Rattle.blocks.proofs.take_values.Reads as take-values-says
 use Rattle.blocks.proofs.is_given.Kinds as is-given
@@ -37,6 +44,16 @@ one-clear κs a x y e f p q name = p .0 name ∙ sym (q .0 name)
 
 pub one-take-values : Once take-values.ps take-values.r take-values-says.Post (λ κs x y e f. (x ≡ y) × ((name : List ℕ) → blockOf name (now (e .0)) ≡ blockOf name (now (f .0))))
 one-take-values κs a x y e f p q =
-    let τ : Time = record { minutes = 0; ordinates = a .1 .1 .1 .1 .0 } in
+    let τ : Time = record { minutes = 0; ordinates = a .1 .1 .1 .1 .0; ratio = 100; listed = [] } in
     let same : x ≡ y = p .number τ refl [] ∙ sym (q .number τ refl []) in
     (same, λ (name : List ℕ). (rw same at (p .block name)) ∙ sym (q .block name))
+
+-- JR's ratios are equal as the lists that they mean: what stands behind the count is scratch
+pub one-no-ratios : Once no-ratios.ps no-ratios.r no-ratios-says.Post (λ κs x y e f. ratiosIs x ≡ ratiosIs y)
+one-no-ratios κs a x y e f p q = p .0 ∙ sym (q .0)
+
+pub one-ratio-at : Once ratio-at.ps ratio-at.r ratio-at-says.Post (λ κs x y e f. x ≡ y)
+one-ratio-at κs a x y e f p q = p ∙ sym q
+
+pub one-under : Once under.ps under.r under-says.Post (λ κs x y e f. x ≡ y)
+one-under κs a x y e f p q = p ∙ sym q

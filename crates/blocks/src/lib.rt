@@ -2,20 +2,63 @@
 // and the values behind it. What stands behind the counted values is scratch. Its name and the time control go by value.
 ghost use mathlib.Core.Path.{_≡_};
 ghost use mathlib.Core.Bool.{false};
-ghost use mathlib.Core.List.{List};
+ghost use mathlib.Core.List.{List, []};
 ghost use Prim.Native.Nat.{ℕ, suc, _+_, _≤_, _<_};
 ghost use lib.ListN.{length, take, getD, set};
 ghost use lib.Seq.{paste};
 ghost use Rattle.meaning.specs.Words.{_<?_, met, if_then_else_};
 ghost use Rattle.meaning.specs.Records.{rowOf, table, mostOrdinates};
 ghost use Rattle.meaning.specs.Blocks.{isGiven, valuesOf, cardOf, repeated, opened};
+ghost use Rattle.blocks.specs.Meant.{ratiosIs, timeUnder};
 ghost use Rattle.blocks.specs.Cards.{headIn, countBy, blockOf, Counted, Readable, Takes};
 ghost use Rattle.records.specs.Rows.{items, spanIn, wordsOf};
 
-// The time control: minutes of an interval, and how many ordinates.
+// The ratios that JR lists, in hundredths, of which the first `count` count; none where there is no JR.
+pub struct Ratios {
+    pub values: [u64; 9],
+    pub count: usize,
+}
+
+// The time control: minutes of an interval, how many ordinates, the ratio in force, in hundredths, and those that are listed.
 pub struct Time {
     pub minutes: u64,
     pub ordinates: usize,
+    pub ratio: u64,
+    pub ratios: Ratios,
+}
+
+// No ratios, as where there is no JR.
+pub fn no_ratios() -> Ratios
+    ensures { λ r. ⌜ (ratiosIs r ≡ []) × (r .count ≤ 9) ⌝ }
+{
+    Ratios {
+        values: [0u64; 9],
+        count: 0,
+    }
+}
+
+// The ratio at a place, from 0; 1.00 where none is listed there.
+pub fn ratio_at(ratios: Ratios, k: usize) -> u64
+    requires { ⌜ ratios .count ≤ 9 ⌝ }
+    ensures { λ r. ⌜ r ≡ getD (ratiosIs ratios) k 100 ⌝ }
+{
+    if k < ratios.count {
+        return ratios.values[k];
+    }
+    100
+}
+
+// The time control with another ratio in force.
+pub fn under(time: Time, ratio: u64) -> Time
+    ensures { λ r. ⌜ r ≡ timeUnder ratio time ⌝ }
+{
+    let ratios = time.ratios;
+    Time {
+        minutes: time.minutes,
+        ordinates: time.ordinates,
+        ratio,
+        ratios,
+    }
 }
 
 // A block's name: its bytes, of which the first `letters` count.

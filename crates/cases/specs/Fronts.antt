@@ -1,7 +1,7 @@
--- What is printed, or counted, of the first few: what one more adds. And how long a number and a refusal are.
+-- What is printed, or counted, of the first few: what one more adds. And how long a number and an answer are.
 --     numbers-more, hex-more      one more is printed
 --     left-zero, left-other       one more is looked at, which is zero or not
---     number-short, refusal-short a number has at most 20 digits
+--     number-short, counts-short, refusal-short   a number has at most 20 digits
 use mathlib.Core.Path.{_≡_, refl, sym, ap, _∙_}
 use mathlib.Core.List.{List, [], _∷_, _++_, append-nil, append-assoc}
 use Prim.Native.Nat.{ℕ, zero, suc, _+_, _^_, _≤_, _<_}
@@ -11,11 +11,11 @@ use native.Mathlib.Omega.{arith}
 use lib.ListN.{length, getD, take, length-append}
 use borrow.Author.Tests.{eq-eqb, ne-eqb}
 use Rattle.meaning.specs.Words.{_=?_, if_then_else_}
+use Rattle.meaning.specs.Run.{Accepted, Refused}
 use Rattle.meaning.specs.Listing.{refusedLine}
 use Rattle.text.specs.Digits.{whole-short}
-use Rattle.printing.specs.Sizes.{refusalSize}
-use Rattle.cases.specs.Sizes.{ordinateSize}
-use Rattle.cases.specs.Text.{numberAt, numbersFrom, hex, hexAll, left}
+use Rattle.cases.specs.Sizes.{answerSize, ordinateSize}
+use Rattle.cases.specs.Text.{answerLine, numberAt, numbersFrom, hex, hexAll, left}
 
 numbers-next : (j i : ℕ) (xs : List ℕ) → i < length xs → numbersFrom j (take (suc i) xs) ≡ numbersFrom j (take i xs) ++ numberAt (j + i) (getD xs i 0)
 numbers-next j i [] h = absurd (omega arith)
@@ -54,6 +54,10 @@ pub left-other : (i : ℕ) (xs : List ℕ) → i < length xs → 0 < getD xs i 0
 unfolding if_then_else_
 left-other i xs h some = rw (add-one i) (left-next i xs h ∙ rw (ne-eqb (getD xs i 0) 0 (λ e. absurd (omega arith))))
 
-pub refusal-short : (number at : ℕ) → number < 10 ^ 20 → at < 10 ^ 20 → length (refusedLine number at) ≤ refusalSize
-unfolding refusedLine
+pub counts-short : (nq blocks ratios : ℕ) → nq < 10 ^ 20 → blocks < 10 ^ 20 → ratios < 10 ^ 20 → length (answerLine (Accepted nq blocks ratios)) ≤ answerSize
+unfolding answerLine
+counts-short nq blocks ratios h k l = simp length-append (omega (arith, whole-short 19 nq h, whole-short 19 blocks k, whole-short 19 ratios l))
+
+pub refusal-short : (number at : ℕ) → number < 10 ^ 20 → at < 10 ^ 20 → length (answerLine (Refused number at)) ≤ answerSize
+unfolding answerLine refusedLine
 refusal-short number at h k = simp length-append (omega (arith, whole-short 19 number h, whole-short 19 at k))

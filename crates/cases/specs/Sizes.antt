@@ -1,6 +1,9 @@
 -- How many bytes the text of a case takes at most.
 use Prim.Native.Nat.{ℕ, _+_, _*_}
-use Rattle.printing.specs.Sizes.{refusalSize}
+
+-- Three numbers of at most 20 digits, two blanks, the line's end. The line of a refusal is shorter.
+abbrev pub answerSize : ℕ
+answerSize = 63
 
 -- A blank and at most 20 digits.
 abbrev pub ordinateSize : ℕ
@@ -14,6 +17,6 @@ byteSize = 2
 abbrev pub leftSize : ℕ
 leftSize = 24
 
--- The answer's line is no longer than that of a refusal.
+-- The lines of the answer, of the ordinates and of the record bytes, and the last two.
 abbrev pub caseSize : (ordinates records : ℕ) → ℕ
-caseSize ordinates records = refusalSize + (ordinateSize * ordinates + 1) + (byteSize * records + 1) + leftSize
+caseSize ordinates records = answerSize + (ordinateSize * ordinates + 1) + (byteSize * records + 1) + leftSize

@@ -14,7 +14,7 @@ abbrev pub line : List ℕ → List ℕ
 line s = s ++ (lf ∷ [])
 
 unfoldable pub answerLine : Answer → List ℕ
-answerLine (Accepted nq blocks) = line (whole nq ++ (blank ∷ whole blocks))
+answerLine (Accepted nq blocks ratios) = line (whole nq ++ (blank ∷ whole blocks) ++ (blank ∷ whole ratios))
 answerLine (Refused number at) = refusedLine number at
 
 -- Numbers in decimal, a blank before each but the first.
@@ -53,8 +53,8 @@ caseText o =
     ++ line (hexAll (o .records))
     ++ leftLines (o .work)
 
-an-outcome : caseText (record { answer = Accepted 4 2; work = 0 ∷ 7 ∷ 0 ∷ []; ordinates = 0 ∷ 120 ∷ 48 ∷ []; records = 0 ∷ 85 ∷ 250 ∷ [] })
-    ≡ line (bytes "4 2") ++ line (bytes "0 120 48") ++ line (bytes "0055fa") ++ line (bytes "1") ++ line (bytes "--")
+an-outcome : caseText (record { answer = Accepted 4 2 3; work = 0 ∷ 7 ∷ 0 ∷ []; ordinates = 0 ∷ 120 ∷ 48 ∷ []; records = 0 ∷ 85 ∷ 250 ∷ [] })
+    ≡ line (bytes "4 2 3") ++ line (bytes "0 120 48") ++ line (bytes "0055fa") ++ line (bytes "1") ++ line (bytes "--")
 unfolding caseText leftLines answerLine whole if_then_else_
 an-outcome = refl
 

@@ -4,12 +4,12 @@ ghost use Prim.Native.Nat.{_+_, _*_, _<_, _≤_};
 ghost use lib.ListN.{length};
 ghost use Rattle.sequences.specs.Parts.{part};
 ghost use Rattle.slices.specs.Bytes.{fromLittleEndian};
+ghost use Rattle.meaning.specs.Run.{Accepted};
 ghost use Rattle.answers.specs.Answers.{answerIs, outcomeIs};
 ghost use Rattle.text.specs.Written.{Written};
 ghost use Rattle.text.specs.Counted.{Counted};
-ghost use Rattle.printing.specs.Sizes.{refusalSize};
 ghost use Rattle.cases.specs.Case.{caseOf};
-ghost use Rattle.cases.specs.Sizes.{ordinateSize, byteSize, leftSize, caseSize};
+ghost use Rattle.cases.specs.Sizes.{answerSize, ordinateSize, byteSize, leftSize, caseSize};
 ghost use Rattle.cases.specs.Text.{line, answerLine, numberAt, numbersFrom, hexDigit, hex, hexAll, left, leftLines, caseText};
 use answers::Answer;
 
@@ -18,13 +18,14 @@ pub const WORK: usize = 12_000;
 
 pub const ORDINATES: usize = 600;
 
-pub const RECORDS: usize = 16_000;
+pub const RECORDS: usize = 72_000;
 
-pub const TEXT: usize = printing::REFUSAL + (21 * ORDINATES + 1) + (2 * RECORDS + 1) + 24;
+pub const TEXT: usize = 63 + (21 * ORDINATES + 1) + (2 * RECORDS + 1) + 24;
 
-// What a case says before its deck: the block that is named, the words, ordinates and bytes that are lent, and the deck's length.
+// What a case says before its deck: the block and the ratio that are named, the words, ordinates and bytes that are lent, and the deck's length.
 pub struct Case {
     pub named: usize,
+    pub ratio: usize,
     pub work: usize,
     pub ordinates: usize,
     pub records: usize,
@@ -38,31 +39,41 @@ fn number_at(b: &[u8], at: usize) -> usize
     slices::read_le(&b[at..at + 4]) as usize
 }
 
-// Five numbers, each in 4 bytes, the lowest first.
+// Six numbers, each in 4 bytes, the lowest first.
 pub fn read_case(b: &[u8]) -> Case
-    requires { ⌜ 20 ≤ length (now b) ⌝ }
+    requires { ⌜ 24 ≤ length (now b) ⌝ }
     ensures { λ r. ⌜ r ≡ caseOf (now (b .entry)) ⌝ }
 {
     Case {
         named: number_at(b, 0),
-        work: number_at(b, 4),
-        ordinates: number_at(b, 8),
-        records: number_at(b, 12),
-        size: number_at(b, 16),
+        ratio: number_at(b, 4),
+        work: number_at(b, 8),
+        ordinates: number_at(b, 12),
+        records: number_at(b, 16),
+        size: number_at(b, 20),
     }
+}
+
+// The line of an acceptance.
+fn write_counts(out: &mut [u8], ordinates: u64, blocks: u64, ratios: u64) -> usize
+    requires { ⌜ answerSize ≤ length (now out) ⌝ }
+    ensures { λ r. ⌜ Written (now (out .entry)) 0 (answerLine (Accepted ordinates blocks ratios)) (now (out .exit)) r ⌝ }
+{
+    let second = text::write_whole(out, 0, ordinates);
+    let third = text::write_number(out, second, blocks);
+    let end = text::write_number(out, third, ratios);
+    text::write_byte(out, end, b'\n')
 }
 
 // The line of the answer.
 fn write_answer(out: &mut [u8], answer: Answer) -> usize
-    requires { ⌜ refusalSize ≤ length (now out) ⌝ }
+    requires { ⌜ answerSize ≤ length (now out) ⌝ }
     ensures text { λ r. ⌜ Written (now (out .entry)) 0 (answerLine (answerIs answer)) (now (out .exit)) r ⌝ }
-    ensures short { λ r. ⌜ r ≤ refusalSize ⌝ }
+    ensures short { λ r. ⌜ r ≤ answerSize ⌝ }
 {
     match answer {
-        Answer::Accepted(ordinates, blocks) => {
-            let second = text::write_whole(out, 0, ordinates as u64);
-            let end = text::write_number(out, second, blocks as u64);
-            text::write_byte(out, end, b'\n')
+        Answer::Accepted(ordinates, blocks, ratios) => {
+            write_counts(out, ordinates as u64, blocks as u64, ratios as u64)
         }
         Answer::Refused(number, line) => printing::write_refusal(out, number, line),
     }

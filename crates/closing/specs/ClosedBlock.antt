@@ -12,7 +12,8 @@ use lib.ListN.{length, length-drop}
 use Rattle.meaning.specs.Water.{flowLimit}
 use Rattle.meaning.specs.Blocks.{Time, Block, Kind, kindNumber, kindOf, takes, Held, total}
 use Rattle.meaning.specs.Results.{peakOf}
-use Rattle.meaning.specs.Run.{heldFor, heldAfter, shapeRefusal, flowRefusal, closingRefusal}
+use Rattle.meaning.specs.Run.{heldFor, heldAfter, shapeRefusal, flowRefusal}
+use Rattle.passes.specs.One.{closingUnder}
 use Rattle.stack.specs.declared.Stack.{Stack}
 use Rattle.stack.specs.View.{view, length-held}
 use Rattle.stack.specs.Limits.{Within}
@@ -48,18 +49,16 @@ pub record Keeps (τ : Time) (b : Block) (before : List Held) (next : Stack) (w 
   pub areas : total (view next (τ .ordinates) w) .area ≤ total before .area + 999_999
 
 pub record Closes (τ : Time) (b : Block) (s : Stack) (w : List ℕ) (r : Closed) (w′ : List ℕ) : Type 0 where
-  pub answer : r ≡ answerBy (closingRefusal τ b (view s (τ .ordinates) w)) (kindOf b) b s (heldFor τ b (view s (τ .ordinates) w))
+  pub answer : r ≡ answerBy (closingUnder τ b (view s (τ .ordinates) w)) (kindOf b) b s (heldFor τ b (view s (τ .ordinates) w))
   pub words : w′ ≡ wordsAfter (shapeRefusal τ b (s .depth)) (kindOf b) τ b s w
   pub keeps : r .refusal ≡ 0 → Keeps τ b (view s (τ .ordinates) w) (r .held) w′
 
 -- the refusal
-pub closing-shape : (τ : Time) (b : Block) (held : List Held) (n : ℕ) → (n ≡ 0 → ⊥) → shapeRefusal τ b (length held) ≡ n → closingRefusal τ b held ≡ n
-unfolding closingRefusal
+pub closing-shape : (τ : Time) (b : Block) (held : List Held) (n : ℕ) → (n ≡ 0 → ⊥) → shapeRefusal τ b (length held) ≡ n → closingUnder τ b held ≡ n
 closing-shape τ b held zero some e = absurd (some refl)
 closing-shape τ b held (suc n) some e = rw e
 
-pub closing-flow : (τ : Time) (b : Block) (held : List Held) → shapeRefusal τ b (length held) ≡ 0 → closingRefusal τ b held ≡ flowRefusal (heldFor τ b held)
-unfolding closingRefusal
+pub closing-flow : (τ : Time) (b : Block) (held : List Held) → shapeRefusal τ b (length held) ≡ 0 → closingUnder τ b held ≡ flowRefusal (heldFor τ b held)
 closing-flow τ b held e = rw e
 
 -- the answer
@@ -87,7 +86,7 @@ module _ (τ : Time) (b : Block) (s : Stack) (w : List ℕ) where
   shape : shapeRefusal τ b (length before) ≡ shapeRefusal τ b (s .depth)
   shape = ap (shapeRefusal τ b) (length-held (τ .ordinates) (s .areas) (s .depth) w)
 
-  answered : {n : ℕ} → closingRefusal τ b before ≡ n → answerBy n (kindOf b) b s (heldFor τ b before) ≡ answerBy (closingRefusal τ b before) (kindOf b) b s (heldFor τ b before)
+  answered : {n : ℕ} → closingUnder τ b before ≡ n → answerBy n (kindOf b) b s (heldFor τ b before) ≡ answerBy (closingUnder τ b before) (kindOf b) b s (heldFor τ b before)
   answered e = ap (λ (m : ℕ). answerBy m (kindOf b) b s (heldFor τ b before)) (sym e)
 
   pub closes-by-shape : (n : ℕ) {r : Closed} → n ≡ shapeRefusal τ b (s .depth) → (n ≡ 0 → ⊥) → r ≡ refusedBlock n s → Closes τ b s w r w
@@ -118,7 +117,7 @@ module _ (τ : Time) (b : Block) (s : Stack) (w : List ℕ) where
     pub closes-by-flow : {r : Closed} → flowLimit < peakOf (heldFor τ b before .flow) → r ≡ refusedBlock 13 s → Closes τ b s w r w′
     unfolding flowRefusal
     closes-by-flow high e =
-        let refusal : closingRefusal τ b before ≡ 13 = closing-flow τ b before sound ∙ rw (lt-ltb flowLimit (peakOf (heldFor τ b before .flow)) high) in
+        let refusal : closingUnder τ b before ≡ 13 = closing-flow τ b before sound ∙ rw (lt-ltb flowLimit (peakOf (heldFor τ b before .flow)) high) in
         record { answer = e ∙ answered refusal; words = words-made; keeps = λ z. absurd (omega (arith, ap (λ (r : Closed). r .refusal) e)) }
 
     pub closes-held : {kind area : ℕ} {summary : Summary} → CardsWithin b → Within before → kind ≡ kindNumber (kindOf b) → area ≡ heldFor τ b before .area
@@ -126,7 +125,7 @@ module _ (τ : Time) (b : Block) (s : Stack) (w : List ℕ) where
         → Closes τ b s w (record { refusal = 0; held = next; kind = kind; area = area; summary = summary }) w′
     unfolding flowRefusal
     closes-held cards flows ek ea es low =
-        let refusal : closingRefusal τ b before ≡ 0 = closing-flow τ b before sound ∙ rw (le-ltb flowLimit (peakOf (heldFor τ b before .flow)) low) in
+        let refusal : closingUnder τ b before ≡ 0 = closing-flow τ b before sound ∙ rw (le-ltb flowLimit (peakOf (heldFor τ b before .flow)) low) in
         record {
           answer = rw (makes .stack, ek, ea, es) (answered refusal);
           words = words-made;

@@ -7,7 +7,7 @@ use mathlib.Core.List.{List}
 use Rattle.sequences.specs.Parts.{part}
 use Rattle.meaning.specs.Blocks.{Time, Block, kindOf}
 use Rattle.meaning.specs.Results.{Result, recordOf}
-use Rattle.meaning.specs.Run.{heldFor, closingRefusal}
+use Rattle.meaning.specs.Run.{heldFor}
 use Rattle.meaning.specs.Records.{mostOrdinates}
 use Rattle.stack.specs.declared.Stack.{Stack}
 use Rattle.stack.specs.View.{view}
@@ -15,6 +15,7 @@ use Rattle.results.specs.Record.{record-of}
 use Rattle.telling.specs.declared.Closed.{Closed}
 use Rattle.telling.specs.LastHeld.{view-last}
 use Rattle.writing.specs.WrittenResult.{recordTold}
+use Rattle.passes.specs.One.{closingUnder}
 use Rattle.closing.specs.ClosedBlock.{Closes, closedBlock, answer-number, answer-none}
 
 abbrev pub resultOf : Time → Block → Stack → List ℕ → Result
@@ -22,7 +23,7 @@ resultOf τ b s w = record { block = b; held = heldFor τ b (view s (τ .ordinat
 
 module _ {τ : Time} {b : Block} {s : Stack} {w : List ℕ} {c : Closed} {w′ : List ℕ} (closes : Closes τ b s w c w′) where
   abbrev refusal : ℕ
-  refusal = closingRefusal τ b (view s (τ .ordinates) w)
+  refusal = closingUnder τ b (view s (τ .ordinates) w)
 
   pub told-number : c .refusal ≡ refusal
   told-number = ap (λ (r : Closed). r .refusal) (closes .answer) ∙ answer-number (kindOf b) b s (resultOf τ b s w .held) refusal

@@ -8,7 +8,7 @@ use Prim.Native.Nat.{ℕ, zero, suc, _+_}
 use mathlib.Core.Path.{_≡_, refl}
 use mathlib.Core.List.{List, [], _∷_}
 use Rattle.meaning.specs.Records.{Record}
-use Rattle.meaning.specs.Run.{Head, Faulty, Skipped, Holds, headOf, Reading, Event, Refuse, Go, Open, End, unless, readRecord, readBy, readLine, Standing, Worked, Stopped, act, andThen, walk}
+use Rattle.meaning.specs.Run.{Head, Faulty, Skipped, Holds, headOf, Reading, Event, Refuse, Go, Open, End, unless, readRecord, readBy, readLine, Standing, Which, Worked, Stopped, act, andThen, walk}
 
 pub data Found : Type 0 where
   Missing : Reading → ℕ → Found
@@ -24,23 +24,24 @@ unfoldable pub nextEvent : List (List ℕ) → Reading → ℕ → Found
 nextEvent [] r line = Missing r line
 nextEvent (l ∷ ls) r line = metBy (readLine r l) r line ls (λ (next : Reading). nextEvent ls next (line + 1))
 
-abbrev pub workFound : Found → Standing → Worked
-workFound (Missing r line) s = Stopped 16 0
-workFound (Met e r line rest) s = andThen (act e r s line) (λ (r′ : Reading) (s′ : Standing). walk rest r′ s′ (line + 1))
+module _ (which : Which) where
+  abbrev pub workFound : Found → Standing → Worked
+  workFound (Missing r line) s = Stopped 16 0
+  workFound (Met e r line rest) s = andThen (act which e r s line) (λ (r′ : Reading) (s′ : Standing). walk which rest r′ s′ (line + 1))
 
-walk-met : (e : Event) (r : Reading) (s : Standing) (line : ℕ) (ls : List (List ℕ)) (go : Reading → Found)
-    → ((next : Reading) → walk ls next s (line + 1) ≡ workFound (go next) s)
-    → andThen (act e r s line) (λ (r′ : Reading) (s′ : Standing). walk ls r′ s′ (line + 1)) ≡ workFound (metBy e r line ls go) s
-walk-met (Refuse number) r s line ls go ih = refl
-walk-met (Go next) r s line ls go ih = ih next
-walk-met (Open next) r s line ls go ih = refl
-walk-met (End τ) r s line ls go ih = refl
+  walk-met : (e : Event) (r : Reading) (s : Standing) (line : ℕ) (ls : List (List ℕ)) (go : Reading → Found)
+      → ((next : Reading) → walk which ls next s (line + 1) ≡ workFound (go next) s)
+      → andThen (act which e r s line) (λ (r′ : Reading) (s′ : Standing). walk which ls r′ s′ (line + 1)) ≡ workFound (metBy e r line ls go) s
+  walk-met (Refuse number) r s line ls go ih = refl
+  walk-met (Go next) r s line ls go ih = ih next
+  walk-met (Open next) r s line ls go ih = refl
+  walk-met (End τ) r s line ls go ih = refl
 
-pub walk-read : (ls : List (List ℕ)) (r : Reading) (s : Standing) (line : ℕ) → walk ls r s line ≡ workFound (nextEvent ls r line) s
-unfolding walk nextEvent
-walk-read [] r s line = refl
-walk-read (l ∷ ls) r s line =
-    walk-met (readLine r l) r s line ls (λ (next : Reading). nextEvent ls next (line + 1)) (λ (next : Reading). walk-read ls next s (line + 1))
+  pub walk-read : (ls : List (List ℕ)) (r : Reading) (s : Standing) (line : ℕ) → walk which ls r s line ≡ workFound (nextEvent ls r line) s
+  unfolding walk nextEvent
+  walk-read [] r s line = refl
+  walk-read (l ∷ ls) r s line =
+      walk-met (readLine r l) r s line ls (λ (next : Reading). nextEvent ls next (line + 1)) (λ (next : Reading). walk-read ls next s (line + 1))
 
 -- WHAT AN EVENT HAS, where every refusal has it: an event unless it is refused, and a line by its head
 module _ (Q : Event → Type 0) (refused : (number : ℕ) → Q (Refuse number)) where

@@ -15,6 +15,7 @@ use Rattle.identifiers.proofs.head_of.Reads as head-of-says
 abbrev recordFor : records.Record → Record
 recordFor records.ID = kind.Id
 recordFor records.IT = kind.It
+recordFor records.JR = kind.Jr
 recordFor records.KK = kind.Kk
 recordFor records.KM = kind.Km
 recordFor records.ZZ = kind.Zz
@@ -30,6 +31,7 @@ headFor (run.Holds r) = head.Holds (recordFor r)
 record-told : (r : Record) → recordFor (recordIs r) ≡ r
 record-told kind.Id = refl
 record-told kind.It = refl
+record-told kind.Jr = refl
 record-told kind.Kk = refl
 record-told kind.Km = refl
 record-told kind.Zz = refl

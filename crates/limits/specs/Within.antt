@@ -10,16 +10,17 @@ use native.Mathlib.Omega.{arith}
 use borrow.Author.Tests.{eqb-true, eqb-false}
 use native.Mathlib.Nat.{le-refl, le-trans}
 use mathlib.Core.Logic.{_⊎_, inl, inr}
-use lib.Seq.{set-out, getD-set-same, getD-set-other}
-use lib.ListN.{length, getD, set, replicate, length-set, length-append, length-replicate}
+use lib.Seq.{getD-drop, set-out, getD-set-same, getD-set-other}
+use lib.ListN.{length, drop, getD, set, replicate, length-set, length-drop, length-append, length-replicate}
 use Rattle.sequences.specs.Refusals.{neither-met, not-met}
 use Rattle.sequences.specs.Choices.{below-or-not}
-use Rattle.meaning.specs.Words.{_=?_, if_then_else_, met}
+use Rattle.meaning.specs.Words.{_=?_, if_then_else_, empty, met}
 use Rattle.meaning.specs.Fields.{Form, fieldsOf, nameIn}
-use Rattle.meaning.specs.Records.{Item, Row, Once, Listed, table, rowOf, rulesIn, listsIn, Record, ID, IT, KK, KM, ZZ, Control, Of, Rule, ruleAt, timeRules, rulesOf, filledUp, valueFields, anyFaulty, anyOutside, valuesFrom, badName, mostOrdinates}
-use Rattle.meaning.specs.Blocks.{Time, Card, Absent, Given, isGiven, valuesOf, Block, cardOf, opened, repeated, tooMany}
-use Rattle.meaning.specs.Run.{Reading, BeforeTime, BeforeBlocks, InBlock, Event, Refuse, Go, Open, End, unless, timeRefusal, timeOf, nameRefusal, itemValues, itemRefusal, withItem, readRecord, readLine}
+use Rattle.meaning.specs.Records.{Item, Row, Once, Listed, table, rowOf, rulesIn, listsIn, Record, ID, IT, JR, KK, KM, ZZ, Control, Of, Rule, Limited, ruleAt, timeRules, ratioRules, rulesOf, filledUp, valueFields, anyFaulty, anyOutside, valuesFrom, badName, mostOrdinates}
+use Rattle.meaning.specs.Blocks.{Time, ratioAt, under, Card, Absent, Given, isGiven, valuesOf, Block, cardOf, opened, repeated, tooMany}
+use Rattle.meaning.specs.Run.{Reading, BeforeTime, BeforeBlocks, InBlock, Event, Refuse, Go, Open, End, unless, timeRefusal, timeOf, ratioFields, ratioRefusal, withRatios, nameRefusal, itemValues, itemRefusal, withItem, readRecord, readLine}
 use Rattle.records.specs.Blanks.{filled-long}
+use Rattle.limits.specs.Fields.{line-few, front-sound, length-values}
 use Rattle.limits.specs.Limits.{highest, lowest, values-at-most, values-at-least}
 use Rattle.events.specs.NextEvent.{Found, FoundHas, found-has, nextEvent, unless-has, line-has}
 
@@ -28,6 +29,9 @@ pub record TimeWithin (τ : Time) : Type 0 where
   pub few-minutes : τ .minutes ≤ 1440
   pub some-ordinates : 1 ≤ τ .ordinates
   pub few-ordinates : τ .ordinates ≤ mostOrdinates
+  pub small-ratio : τ .ratio ≤ 999
+  pub small-ratios : (k : ℕ) → getD (τ .listed) k 100 ≤ 999
+  pub few-ratios : length (τ .listed) ≤ 9
 
 -- The rule of a value of a card, and how many fields a record has that stands once.
 abbrev pub valueRule : Row → ℕ → Rule
@@ -89,13 +93,10 @@ pub within-opened : (name : List ℕ) → badName name ≡ false → Within (ope
 within-opened name e = record { name = e; long = length-replicate (length table) Absent; cards = λ (item : ℕ). rw (all-absent (length table) item) (within-absent (rowOf item)) }
 
 -- a card with a line's values behind those it has: one law for every record
-ten-rules : (r : Rule) (j : ℕ) → highest (ruleAt (replicate 10 r) j) ≤ highest r
-ten-rules r j = go 10 j
-  where
-    go : (n j : ℕ) → highest (ruleAt (replicate n r) j) ≤ highest r
-    go zero j = zero-le
-    go (suc n) zero = le-refl (highest r)
-    go (suc n) (suc j) = go n j
+same-rules : (n : ℕ) (r : Rule) (j : ℕ) → highest (ruleAt (replicate n r) j) ≤ highest r
+same-rules zero r j = zero-le
+same-rules (suc n) r zero = le-refl (highest r)
+same-rules (suc n) r (suc j) = same-rules n r j
 
 pub record SoundCard (row : Row) (c : Card) (fs : List (List ℕ)) : Type 0 where
   pub once : (not (listsIn row) && isGiven c) ≡ false
@@ -115,7 +116,7 @@ within-card (Once i rules) c fs s w =
     })
 within-card (Listed i most each) c fs s w =
     let v : (j : ℕ) → getD (valuesFrom (replicate 10 each) 0 fs) j 0 ≤ highest each =
-    λ (j : ℕ). let h = values-at-most (replicate 10 each) 0 fs (s .inside) j in let t = ten-rules each (0 + j) in le-trans h t in
+    λ (j : ℕ). let h = values-at-most (replicate 10 each) 0 fs (s .inside) j in let t = same-rules 10 each (0 + j) in le-trans h t in
     record {
       high = bound-append (highest each) (valuesOf c) (valuesFrom (replicate 10 each) 0 fs) (w .high) v;
       low = λ z (j : ℕ) (k : j < 0). absurd (omega arith);
@@ -169,6 +170,62 @@ time-read fs e =
       few-minutes = values-at-most timeRules 0 gs i 0;
       some-ordinates = values-at-least timeRules 0 gs m i 3 (omega arith);
       few-ordinates = values-at-most timeRules 0 gs i 3;
+      small-ratio = omega arith;
+      small-ratios = λ (k : ℕ). omega arith;
+      few-ratios = omega arith;
+    }
+
+-- each ratio that is listed is within its limits, and so is 1.00 where there is none
+ratio-rules : (j : ℕ) → highest (ruleAt (replicate 9 (Limited 2 1 999)) j) ≤ 999
+ratio-rules j = same-rules 9 (Limited 2 1 999) j
+
+listed-small : (vs : List ℕ) → ((j : ℕ) → getD vs j 0 ≤ 999) → (k : ℕ) → getD vs k 100 ≤ 999
+listed-small [] h k = omega arith
+listed-small (v ∷ vs) h zero = h 0
+listed-small (v ∷ vs) h (suc k) = listed-small vs (λ (j : ℕ). h (suc j)) k
+
+-- and there are no more than the rules name
+listed-few : (form : Form) (l : List ℕ) → anyFaulty ratioRules 0 (ratioFields (fieldsOf form l)) ≡ false → length (drop 1 (valuesFrom ratioRules 0 (ratioFields (fieldsOf form l)))) ≤ 9
+listed-few form l e =
+    let fs = fieldsOf form l in
+    let more : List (List ℕ) = replicate (2 - length fs) [] in
+    let few = line-few ratioRules form l (front-sound ratioRules 0 fs more e) in
+    let long : length more ≡ 2 - length fs = length-replicate (2 - length fs) [] in
+    omega (arith, length-drop 1 (valuesFrom ratioRules 0 (ratioFields fs)), length-values ratioRules 0 (ratioFields fs), length-append fs more)
+
+ratios-read : (τ : Time) (form : Form) (l : List ℕ) → ratioRefusal τ (fieldsOf form l) ≡ 0 → TimeWithin τ → TimeWithin (withRatios (fieldsOf form l) τ)
+unfolding ratioRefusal withRatios valuesFrom
+ratios-read τ form l e t =
+    let fs = fieldsOf form l in
+    let f = neither-met (met (not (empty (τ .listed))) 5) _ e in
+    let g = neither-met (met (anyFaulty ratioRules 0 (ratioFields fs)) 6) (met (anyOutside ratioRules 0 (ratioFields fs)) 7) (f .1) in
+    let i = not-met (anyOutside ratioRules 0 (ratioFields fs)) 6 (g .1) in
+    record {
+      some-minutes = t .some-minutes;
+      few-minutes = t .few-minutes;
+      some-ordinates = t .some-ordinates;
+      few-ordinates = t .few-ordinates;
+      small-ratio = t .small-ratio;
+      small-ratios =
+          listed-small (drop 1 (valuesFrom ratioRules 0 (ratioFields fs)))
+          (λ (j : ℕ).
+          let at : 0 + (1 + j) ≡ suc j = omega arith in
+          let h = values-at-most ratioRules 0 (ratioFields fs) i (1 + j) in
+          rw (getD-drop 1 (valuesFrom ratioRules 0 (ratioFields fs)) j 0) (le-trans (rw at at h) (ratio-rules j)));
+      few-ratios = listed-few form l (not-met (anyFaulty ratioRules 0 (ratioFields fs)) 5 (g .0));
+    }
+
+-- the time control with one of them in force
+pub within-under : (τ : Time) (k : ℕ) → TimeWithin τ → TimeWithin (under (ratioAt k τ) τ)
+within-under τ k t =
+    record {
+      some-minutes = t .some-minutes;
+      few-minutes = t .few-minutes;
+      some-ordinates = t .some-ordinates;
+      few-ordinates = t .few-ordinates;
+      small-ratio = t .small-ratios k;
+      small-ratios = t .small-ratios;
+      few-ratios = t .few-ratios;
     }
 
 named-within : (τ : Time) (form : Form) (name : List ℕ) → TimeWithin τ → EventWithin (unless (nameRefusal name) (Open (InBlock τ form (opened name))))
@@ -179,6 +236,7 @@ named-within τ form name t =
 record-within : (r : Reading) (l : List ℕ) (k : Record) → ReadingWithin r → EventWithin (readRecord r l k)
 record-within (BeforeTime form) l ID w = tt
 record-within (BeforeTime form) l IT w = unless-within _ _ (λ e. time-read (fieldsOf form l) e)
+record-within (BeforeTime form) l JR w = tt
 record-within (BeforeTime form) l KK w = tt
 record-within (BeforeTime form) l KM w = tt
 record-within (BeforeTime form) l ZZ w = tt
@@ -186,6 +244,7 @@ record-within (BeforeTime form) l (Control next) w = tt
 record-within (BeforeTime form) l (Of item) w = tt
 record-within (BeforeBlocks τ form) l ID w = tt
 record-within (BeforeBlocks τ form) l IT w = tt
+record-within (BeforeBlocks τ form) l JR w = unless-within _ _ (λ e. ratios-read τ form l e w)
 record-within (BeforeBlocks τ form) l KK w = named-within τ form (nameIn form l) w
 record-within (BeforeBlocks τ form) l KM w = w
 record-within (BeforeBlocks τ form) l ZZ w = w
@@ -193,6 +252,7 @@ record-within (BeforeBlocks τ form) l (Control next) w = w
 record-within (BeforeBlocks τ form) l (Of item) w = tt
 record-within (InBlock τ form b) l ID w = tt
 record-within (InBlock τ form b) l IT w = tt
+record-within (InBlock τ form b) l JR w = tt
 record-within (InBlock τ form b) l KK w = named-within τ form (nameIn form l) (w .0)
 record-within (InBlock τ form b) l KM w = w
 record-within (InBlock τ form b) l ZZ w = w .0

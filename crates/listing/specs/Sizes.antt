@@ -1,12 +1,14 @@
 -- How many bytes things take: the records and the listing of any deck.
-use Prim.Native.Nat.{ℕ, _+_, _*_}
-use Rattle.meaning.specs.Results.{recordSize}
-use Rattle.meaning.specs.Run.{mostBlocks}
-use Rattle.figures.specs.Line.{lineSize}
-use Rattle.printing.specs.Sizes.{endSize}
+use Prim.Native.Nat.{ℕ, _+_}
+use Rattle.meaning.specs.Run.{mostBlocks, recordBytes}
+use Rattle.printing.specs.Sizes.{linesSize, endSize}
+
+-- A deck lists at most so many ratios.
+abbrev pub mostRatios : ℕ
+mostRatios = 9
 
 abbrev pub recordsSize : ℕ
-recordsSize = recordSize * mostBlocks
+recordsSize = recordBytes mostBlocks mostRatios
 
 abbrev pub listingSize : ℕ
-listingSize = lineSize * mostBlocks + endSize
+listingSize = linesSize mostBlocks mostRatios + endSize

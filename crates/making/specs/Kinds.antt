@@ -35,6 +35,7 @@ storm-read τ b time cards few =
       unitsUp = cards UI .high;
       rainsUp = cards PI .high;
       totalUp = total-up (isGiven (cardOf PB b)) (record { 0 = stormTotal b * tenThousandth }) (omega (arith, cards PB .high 0));
+      ratioUp = time .small-ratio;
       intervalsUp = time .few-ordinates;
     }
 

@@ -53,7 +53,11 @@ fn storm_of(time: Time, cards: &[u64]) -> Storm
 {
     let total = total_of(cards);
     let loss = loss_of(time, cards);
-    Storm { total, loss }
+    Storm {
+        total,
+        ratio: time.ratio,
+        loss,
+    }
 }
 
 // A basin: the runoff of its storm.

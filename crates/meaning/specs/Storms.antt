@@ -23,7 +23,7 @@ inflowTotal = bytes "*FREE\nIT 60,,,5\nKK A\nPB 1\nQI 1\nZZ\n"
 
 -- A basin with a total of 1 inch and an empty pattern.
 abbrev hour : Time
-hour = record { minutes = 60; ordinates = 5 }
+hour = record { minutes = 60; ordinates = 5; ratio = 100; listed = [] }
 
 abbrev dryBasin : Block
 dryBasin =

@@ -4,7 +4,7 @@
 --     Begins, Opens   a reading begun, and one with a block just opened
 use Prim.Native.Nat.{ℕ, _≤_}
 use mathlib.Core.Path.{_≡_}
-use mathlib.Core.List.{List}
+use mathlib.Core.List.{List, []}
 use Rattle.meaning.specs.Fields.{Form, Fixed}
 use Rattle.meaning.specs.Blocks as blocks
 use Rattle.meaning.specs.Blocks.{Block, opened}
@@ -13,7 +13,7 @@ use Rattle.meaning.specs.Run.{BeforeTime, BeforeBlocks, InBlock}
 use Rattle.meaning.specs.Records.{mostOrdinates}
 use Rattle.fields.specs.Spans.{formOf}
 use Rattle.blocks.specs.declared.Name.{Name}
-use Rattle.blocks.specs.Meant.{timeIs, nameIs}
+use Rattle.blocks.specs.Meant.{ratiosIs, timeIs, nameIs}
 use Rattle.blocks.specs.Cards.{blockOf, Counted, Readable}
 use Rattle.placing.specs.declared.Phase.{Phase}
 use Rattle.placing.specs.declared.Phase.the-variants as phase
@@ -37,7 +37,7 @@ formIn (BeforeBlocks τ form) = form
 formIn (InBlock τ form b) = form
 
 abbrev pub timeIn : run.Reading → blocks.Time
-timeIn (BeforeTime form) = record { minutes = 0; ordinates = 0 }
+timeIn (BeforeTime form) = record { minutes = 0; ordinates = 0; ratio = 100; listed = [] }
 timeIn (BeforeBlocks τ form) = τ
 timeIn (InBlock τ form b) = τ
 
@@ -53,6 +53,7 @@ openedIn r name = InBlock (timeIn r) (formIn r) (opened name)
 -- Before the first block the words hold nothing that counts; in a block they count no more than it may have.
 pub record Ready (r : Reading) (w : List ℕ) : Type 0 where
   pub few-ordinates : r .time .ordinates ≤ mostOrdinates
+  pub few-ratios : r .time .ratios .count ≤ 9
   pub short-name : r .name .letters ≤ 6
   pub readable : Readable w
   pub counted : r .phase ≡ phase.InBlock → Counted (r .time .ordinates) w
@@ -60,6 +61,7 @@ pub record Ready (r : Reading) (w : List ℕ) : Type 0 where
 pub record Begins (r : Reading) (w : List ℕ) : Type 0 where
   pub is : readingIs r w ≡ BeforeTime Fixed
   pub phase : r .phase ≡ phase.BeforeTime
+  pub none-listed : ratiosIs (r .time .ratios) ≡ []
   pub ready : Ready r w
 
 pub record Opens (r : Reading) (name : Name) (x : Reading) (w : List ℕ) : Type 0 where

@@ -6,7 +6,8 @@ mod taking;
 pub use names::no_name;
 pub use names::read_name;
 pub use places::place_record;
-pub use taking::take_line;
+pub use taking::take_control;
+pub use taking::take_item;
 ghost use Prim.Native.Nat.{_≤_};
 ghost use lib.ListN.{length};
 ghost use Rattle.meaning.specs.Records.{table};
@@ -42,6 +43,8 @@ pub fn first_reading(cards: &mut [u64]) -> Reading
         time: Time {
             minutes: 0,
             ordinates: 0,
+            ratio: 100,
+            ratios: blocks::no_ratios(),
         },
         name: names::no_name(),
     }

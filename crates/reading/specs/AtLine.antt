@@ -15,12 +15,12 @@ use Rattle.meaning.specs.Records as records
 use Rattle.meaning.specs.Records.{Item, Row, rulesIn, rulesOf, timeRules, filledUp, valueFields, badName, ruleAt, faultyField, anyField, anyFaulty}
 use Rattle.meaning.specs.Blocks.{Time}
 use Rattle.meaning.specs.Run as run
-use Rattle.meaning.specs.Run.{Event, Refuse, Go, Open, End, unless, timeRefusal, itemRefusal, nameRefusal, readLine}
+use Rattle.meaning.specs.Run.{Event, Refuse, Go, Open, End, unless, timeRefusal, ratioRefusal, itemRefusal, nameRefusal, readLine}
 use Rattle.events.specs.NextEvent.{Found, Missing, Met, metBy, nextEvent}
 use Rattle.lines.specs.First.{FairAt, ForeignAt}
 use Rattle.fields.specs.Spans.{formOf, firstPlace}
 use Rattle.identifiers.specs.Passed.{foreign-head}
-use Rattle.records.specs.Rows.{fieldRow, rulesBy, block-row, few-rules, spanIn}
+use Rattle.records.specs.Rows.{fieldRow, rulesBy, ratioScan, block-row, few-rules, spanIn}
 use Rattle.records.specs.Blanks.{blank-listed}
 use Rattle.blocks.specs.Meant.{timeIs, nameIs}
 use Rattle.blocks.specs.Cards.{blockOf}
@@ -32,6 +32,7 @@ use Rattle.placing.specs.declared.Phase.the-variants as phase
 use Rattle.placing.specs.declared.Reading.{Reading}
 use Rattle.placing.specs.Readings.{readingBy, readingIs, openedIn, Ready}
 use Rattle.placing.specs.Places.{Due, fieldsEvent, nameEvent}
+use Rattle.placing.specs.Ratios.{ratio-faults}
 use Rattle.sorting.specs.Sorted.{withFree}
 
 -- At `at` the line from there to `end` is the next, behind n lines; the reading stands at q, and comes to f.
@@ -91,25 +92,27 @@ module _ (item : Item) (form : Form) (l : List ℕ) where
       sym (line-faults (fieldRow item) (blank-listed item) (fieldsOf form l) (h .blanks) (h .enough)) ∙ sym (ap (anyFaulty (rulesBy item) 0) (h .fields)) ∙ e
 
 -- refusal 6
-fault-by : (p : Phase) (item : Item) (τ : Time) (form : Form) (name w : List ℕ) (fs : List (List ℕ)) → Due p item w → anyFaulty (rulesBy item) 0 (valueFieldsIn (fieldRow item) fs) ≡ true
+fault-by : (p : Phase) (item : Item) (τ : Time) (form : Form) (name w : List ℕ) (fs : List (List ℕ)) → Due p τ item w → anyFaulty (rulesBy item) 0 (valueFieldsIn (fieldRow item) fs) ≡ true
     → fieldsEvent item (readingBy p τ form (blockOf name w)) fs ≡ Refuse 6
-unfolding timeRefusal itemRefusal
+unfolding timeRefusal ratioRefusal itemRefusal
 fault-by phase.BeforeTime item τ form name w fs due e =
     let e′ : anyFaulty timeRules 0 (filledUp timeRules fs) ≡ true = rw due at e in
     rw e′
-fault-by phase.BeforeBlocks item τ form name w fs due e = absurd due
+fault-by phase.BeforeBlocks item τ form name w fs due e =
+    let e′ : anyFaulty ratioScan 0 (filledUp ratioScan fs) ≡ true = rw (due .0) at e in
+    rw (due .1, ratio-faults fs ∙ e′)
 fault-by phase.InBlock item τ form name w fs due e =
     let e′ : anyFaulty (rulesOf item) 0 (valueFields item fs) ≡ true =
     ap (anyFaulty (rulesOf item) 0) (fields-in item fs) ∙ ap (λ (row : Row). anyFaulty (rulesIn row) 0 (valueFieldsIn row fs)) (sym (block-row item (due .0))) ∙ e in
     rw (due .1 name, e′)
 
-pub fault-event : (item : Item) (r : Reading) (w : List ℕ) (fs : List (List ℕ)) → Due (r .phase) item w → anyFaulty (rulesBy item) 0 (valueFieldsIn (fieldRow item) fs) ≡ true
+pub fault-event : (item : Item) (r : Reading) (w : List ℕ) (fs : List (List ℕ)) → Due (r .phase) (timeIs (r .time)) item w → anyFaulty (rulesBy item) 0 (valueFieldsIn (fieldRow item) fs) ≡ true
     → fieldsEvent item (readingIs r w) fs ≡ Refuse 6
 fault-event item r w fs due e = fault-by (r .phase) item (timeIs (r .time)) (formOf (r .free)) (nameIs (r .name)) w fs due e
 
 -- THE READING IN ANOTHER FORM
 pub ready-form : {r : Reading} {w : List ℕ} (free : Bool) → Ready r w → Ready (withFree r free) w
-ready-form free k = record { few-ordinates = k .few-ordinates; short-name = k .short-name; readable = k .readable; counted = k .counted }
+ready-form free k = record { few-ordinates = k .few-ordinates; few-ratios = k .few-ratios; short-name = k .short-name; readable = k .readable; counted = k .counted }
 
 -- NAMES
 pub name-bad : (q : run.Reading) (name : List ℕ) → badName name ≡ true → nameEvent q name ≡ Refuse 6

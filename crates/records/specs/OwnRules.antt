@@ -7,7 +7,7 @@ use mathlib.Core.List.{List, [], _∷_}
 use native.Mathlib.Omega.{arith}
 use native.Mathlib.Nat.{le-trans}
 use borrow.Author.Tests.{leb-true}
-use lib.ListN.{length, getD-replicate, List·getD-eq-default}
+use lib.ListN.{length, replicate, getD-replicate, List·getD-eq-default}
 use Rattle.sequences.specs.Choices.{both-hold}
 use Rattle.meaning.specs.Words.{_≤?_}
 use Rattle.meaning.specs.Records as records
@@ -45,15 +45,30 @@ other-past T zero i h = (h, zero-le)
 other-past T (suc n) i h = let k = other-past T n i (h .0) in (k .0, omega (arith, k .1, h .1))
 
 -- past its own fields a record that stands once has none
+pub past-last : {row : Row} {identifier : String} {fields : List records.Rule} (k : ℕ) → row ≡ Once identifier fields → length fields ≤ k → records.Unnamed ≡ ownRule row k
+past-last {fields = fields} k e h = rw e (past fields k h)
+
 pub past-fields : {row : Row} {identifier : String} {fields : List records.Rule} (k : ℕ) → row ≡ Once identifier fields → Other Unit (length fields) k
     → records.Unnamed ≡ ownRule row k
-past-fields {fields = fields} k e h = rw e (past fields k (other-past Unit (length fields) k h .1))
+past-fields {fields = fields} k e h = past-last k e (other-past Unit (length fields) k h .1)
 
--- past the table there is no record: a number that is not the time control's, and none of the records'
-pub no-rule : (item k : ℕ) → Other (Unit × (item ≡ items → ⊥)) items item → records.Unnamed ≡ ownRule (fieldRow item) k
+-- behind its first field it may have some that are alike
+pub like-fields : {row : Row} {identifier : String} {head each : records.Rule} {n : ℕ} (k : ℕ) → row ≡ Once identifier (head ∷ replicate n each) → (k ≡ 0 → ⊥) → k < suc n
+    → each ≡ ownRule row k
+like-fields zero e some few = absurd (some refl)
+like-fields {each = each} {n = n} (suc k) e some few = rw e (sym (getD-replicate n k each records.Unnamed (omega arith)))
+
+-- past the table there is no record: a number that is neither the time control's nor the ratios', and none of the records'
+abbrev pub NotTime : ℕ → Type 0
+NotTime item = (Unit × (item ≡ items → ⊥)) × (item ≡ suc items → ⊥)
+
+past-both : (n item : ℕ) → n ≤ item → (item ≡ n → ⊥) → (item ≡ suc n → ⊥) → suc (suc n) ≤ item
+past-both n item h a b = omega arith
+
+pub no-rule : (item k : ℕ) → Other (NotTime item) items item → records.Unnamed ≡ ownRule (fieldRow item) k
 no-rule item k h =
-    let other = other-past (Unit × (item ≡ items → ⊥)) items item h in
-    let far : length fieldRows ≤ item = omega (arith, other .1, other .0 .1) in
+    let other = other-past (NotTime item) items item h in
+    let far : length fieldRows ≤ item = past-both items item (other .1) (other .0 .0 .1) (other .0 .1) in
     rw (List·getD-eq-default fieldRows (Once "" []) far)
 
 -- Every rule of the table has few places and characters: one test over the rows.

@@ -1,17 +1,17 @@
 -- What the code goes by of the table of records: where the region of a record begins, for how many values it has room, how the record stands.
---     fieldRow, rulesBy          the row of a record with fields: one of a block, or the time control
+--     fieldRow, rulesBy          the row of a record with fields: one of a block, the time control, or the ratios
 --     roomIn, startOf, wordsOf   how many values a region has room for, where it begins, and how many words all of them are
 --     wayIn, mostIn, spanIn      how a record stands, the most values it has in a block, how many of a line's values are its own
 use Prim.Native.Nat.{ℕ, zero, suc, _+_, _≤_, _<_, zero-le}
 use mathlib.Core.Path.{_≡_, refl}
 use mathlib.Core.Bool.{Bool, true, _&&_}
 use mathlib.Core.List.{List, [], _∷_, _++_}
-use lib.ListN.{length, getD, List·getD-append}
+use lib.ListN.{length, getD, replicate, List·getD-append}
 use native.Mathlib.Omega.{arith}
 use borrow.Author.Tests.{leb-true}
 use Rattle.sequences.specs.Choices.{both-hold}
 use Rattle.meaning.specs.Words.{_=?_, _≤?_, if_then_else_}
-use Rattle.meaning.specs.Records.{Rule, UpTo, UpToNQ, Row, Once, Listed, table, timeRules, Item, rowOf, rulesIn, mostOrdinates}
+use Rattle.meaning.specs.Records.{Rule, Limited, only, UpTo, UpToNQ, Row, Once, Listed, table, timeRules, Item, rowOf, rulesIn, mostOrdinates}
 
 -- how many records there are
 abbrev pub items : ℕ
@@ -20,9 +20,16 @@ items = length table
 abbrev pub rowAt : List Row → ℕ → Row
 rowAt rows p = getD rows p (Once "" [])
 
--- the rows with fields: a block's records, and behind them the time control
+-- JR as a pass over its fields holds it: all ten fields are looked at, and a blank one is a ratio of 0. Only behind the last field is it known which ratios there are.
+abbrev pub ratioScan : List Rule
+ratioScan = only 6 "PREC" ∷ replicate 9 (Limited 2 0 999)
+
+-- the rows with fields: a block's records, and behind them the time control and the ratios
+abbrev pub timeRows : List Row
+timeRows = Once "IT" timeRules ∷ Once "JR" ratioScan ∷ []
+
 abbrev pub fieldRows : List Row
-fieldRows = table ++ (Once "IT" timeRules ∷ [])
+fieldRows = table ++ timeRows
 
 abbrev pub fieldRow : Item → Row
 fieldRow item = rowAt fieldRows item
@@ -31,7 +38,7 @@ abbrev pub rulesBy : Item → List Rule
 rulesBy item = rulesIn (fieldRow item)
 
 pub block-row : (item : Item) → item < items → fieldRow item ≡ rowOf item
-block-row item h = List·getD-append table (Once "IT" timeRules ∷ []) (Once "" []) item h
+block-row item h = List·getD-append table timeRows (Once "" []) item h
 
 -- NQ is at most 300
 abbrev pub roomIn : Row → ℕ

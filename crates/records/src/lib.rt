@@ -1,7 +1,7 @@
 // The table of records, as the code has it: a place for each record, the region of the open block's words that its values have, how it stands, its identifier,
 // and the rules of its fields. A further record is one entry more in each table here, and its rules.
 ghost use mathlib.Core.Path.{_≡_};
-ghost use Prim.Native.Nat.{_≤_, _<_};
+ghost use Prim.Native.Nat.{suc, _≤_, _<_};
 ghost use Rattle.meaning.specs.Records.{rowOf, ruleAt, faultyField, outsideField, valueOf};
 ghost use Rattle.records.specs.Rows.{items, fieldRow, rulesBy, start, wayIn, spanIn, spanBy, mostBy};
 ghost use Rattle.rules.specs.Rules.{ruleBy, FieldIs};
@@ -29,8 +29,10 @@ pub const PB: usize = 7;
 
 pub const RECORDS: usize = 8;
 
-// The time control has fields too, and is no record of a block: its place is behind them.
+// The time control and the ratios have fields too, and are no records of a block: their places are behind them.
 pub const IT: usize = RECORDS;
+
+pub const JR: usize = RECORDS + 1;
 
 // Where the regions begin, and behind the last the end: a head word, then room for the values.
 const STARTS: [u16; RECORDS + 1] = [0, 2, 303, 307, 458, 759, 761, 765, 767];
@@ -54,7 +56,7 @@ const KEYS: [u16; RECORDS] = [
 ];
 
 // How many fields have a value whether they are written or not: none where values are listed.
-const NAMED: [u16; RECORDS + 1] = [1, 0, 3, 0, 0, 1, 3, 1, 4];
+const NAMED: [u16; RECORDS + 2] = [1, 0, 3, 0, 0, 1, 3, 1, 4, 10];
 
 fn wide(x: u16) -> u64
     ensures { λ r. ⌜ r ≡ x ⌝ }
@@ -97,7 +99,7 @@ pub fn most_by(way: u8, room: usize, nq: usize) -> usize
 }
 
 pub fn named_fields(item: usize) -> usize
-    requires { ⌜ item ≤ items ⌝ }
+    requires { ⌜ item ≤ suc items ⌝ }
     ensures { λ r. ⌜ r ≡ spanIn (fieldRow item) 0 ⌝ }
 {
     wide(NAMED[item]) as usize
@@ -125,7 +127,8 @@ pub fn place_of(key: u64) -> usize
 }
 
 // The rule of field `k` of a record, from 0, or of the values that it lists. A match and no table, since it is asked for every field.
-// The time control comes first, so that a further record's arm is put behind all others and moves none of them, here and in the proof.
+// What is no record of a block comes first, so that a further record's arm is put behind all others and moves none of them, here and in the proof.
+// A ratio of 0 passes here: which blank fields stand behind the last ratio is known only at the line's end, and there a 0 among the ratios is refused.
 fn own_rule(item: usize, k: usize) -> Rule
     ensures { λ r. ⌜ ruleBy r ≡ ownRule (fieldRow item) k ⌝ }
 {
@@ -135,6 +138,11 @@ fn own_rule(item: usize, k: usize) -> Rule
             1 => Rule::NotRead,
             2 => Rule::NotRead,
             3 => Rule::Limited(0, 1, 300),
+            _ => Rule::Unnamed,
+        },
+        JR => match k {
+            0 => Rule::Worded(6, 4, 0x50524543, 0x50524543),
+            1..=9 => Rule::Limited(2, 0, 999),
             _ => Rule::Unnamed,
         },
         BA => match k {

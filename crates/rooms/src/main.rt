@@ -1,21 +1,28 @@
-// Cases from standard input, each the named block, the work words, the ordinates, the record bytes and the deck's length, in 4 bytes each, and the deck.
+// Cases from standard input, each the named block, the named ratio, the work words, the ordinates, the record bytes and the deck's length, in 4 bytes each, and the deck.
 // Everything lent is filled with ones before a run. Of each: the answer, all ordinates, all record bytes, how many work words are not zero, and '--'.
 ghost use Prim.Native.Nat.{_≤_};
 ghost use lib.ListN.{length};
 use cases::Case;
 use streams::Next;
 
-fn run_case(deck: &[u8], named: usize, work: &mut [u64], ordinates: &mut [u64], records: &mut [u8])
-    requires { ⌜ (length (now ordinates) ≤ 600) × (length (now records) ≤ 16_000) ⌝ }
+fn run_case(
+    deck: &[u8],
+    named: usize,
+    ratio: usize,
+    work: &mut [u64],
+    ordinates: &mut [u64],
+    records: &mut [u8],
+)
+    requires { ⌜ (length (now ordinates) ≤ 600) × (length (now records) ≤ 72_000) ⌝ }
 {
-    let answer = engine::run(deck, named, work, ordinates, records);
+    let answer = engine::run(deck, named, ratio, work, ordinates, records);
     let mut out = [0u8; cases::TEXT];
     let n = cases::write_case(&mut out, answer, work, ordinates, records);
     streams::print(&out[..n]);
 }
 
 fn lend(deck: &[u8], case: Case)
-    requires { ⌜ (case .work ≤ 12_000) × (case .ordinates ≤ 600) × (case .records ≤ 16_000) ⌝ }
+    requires { ⌜ (case .work ≤ 12_000) × (case .ordinates ≤ 600) × (case .records ≤ 72_000) ⌝ }
 {
     let w = case.work;
     let q = case.ordinates;
@@ -26,6 +33,7 @@ fn lend(deck: &[u8], case: Case)
     run_case(
         deck,
         case.named,
+        case.ratio,
         &mut work[..w],
         &mut ordinates[..q],
         &mut records[..n],
@@ -38,7 +46,7 @@ enum Asked {
 }
 
 fn next_case() -> Asked {
-    let mut b = [0u8; 20];
+    let mut b = [0u8; 24];
     match streams::fill(&mut b) {
         Next::Number(_) => Asked::Run(cases::read_case(&b)),
         none => {

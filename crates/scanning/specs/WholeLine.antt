@@ -1,6 +1,7 @@
 -- A whole pass over a line's fields without a fault: what it kept is what refusals 6 to 8 and the block ask of the line.
 --     LineRead       what is asked
 --     line-faults    what refusal 6 asks of it
+--     filled-split   fields with blank ones behind them, as many as are named at least
 --     line-read      the pass has it, over the line's fields and blank ones behind them, as many as the record names at least
 use Prim.Native.Nat.{ℕ, zero, suc, _+_, _-_, _≤_, _<_, zero-le}
 use mathlib.Core.Path.{_≡_, refl, sym, ap, _∙_}
@@ -36,6 +37,7 @@ pub record LineRead (row : Row) (fs : List (List ℕ)) (s : Scanned) : Type 0 wh
   pub flag : s .outside ≡ anyOutside (rulesIn row) 0 (valueFieldsIn row fs)
   pub values : take (spanIn row (s .count)) (s .values) ≡ valuesFrom (rulesIn row) 0 (valueFieldsIn row fs)
   pub few : s .count ≤ 10
+  pub left : s .count ≡ length fs
   pub ten : length (s .values) ≡ 10
 
 -- blank fields behind others are dropped with them
@@ -73,8 +75,8 @@ module _ (rules : List Rule) (fs : List (List ℕ)) (n : ℕ) (enough : length r
   abbrev missing : ℕ
   missing = length rules - length fs
 
-  split : fs ++ replicate n [] ≡ filledUp rules fs ++ replicate (n - missing) []
-  split =
+  pub filled-split : fs ++ replicate n [] ≡ filledUp rules fs ++ replicate (n - missing) []
+  filled-split =
       let e : n ≡ missing + (n - missing) = omega arith in
       ap (λ (k : ℕ). fs ++ replicate k []) e
       ∙ ap (λ (l : List (List ℕ)). fs ++ l) (sym (replicate-append-replicate missing (n - missing) []))
@@ -82,7 +84,7 @@ module _ (rules : List Rule) (fs : List (List ℕ)) (n : ℕ) (enough : length r
 
   -- and a test that no unnamed blank field meets sees no difference
   named-split : (test : Rule → List ℕ → Bool) → BlankPasses test rules (length rules) → anyField test rules 0 (fs ++ replicate n []) ≡ anyField test rules 0 (filledUp rules fs)
-  named-split test passes = ap (anyField test rules 0) split ∙ blanks-split test rules (length rules) passes 0 (filledUp rules fs) (n - missing) (omega (arith, filled-long rules fs))
+  named-split test passes = ap (anyField test rules 0) filled-split ∙ blanks-split test rules (length rules) passes 0 (filledUp rules fs) (n - missing) (omega (arith, filled-long rules fs))
 
 -- refusal 6 over the fields that a pass sees is refusal 6 over the record's
 pub line-faults : (row : Row) → BlankListed row → (fs : List (List ℕ)) (n : ℕ) → spanIn row 0 ≤ length fs + n
@@ -127,7 +129,7 @@ module _ (rules : List Rule) (ten : length rules ≤ 10) (raw : List (List ℕ))
 
       named-values : take (length rules) (scanned .values) ≡ valuesFrom rules 0 (filledUp rules fs)
       named-values =
-          ap (λ (l : List (List ℕ)). take (length rules) (scanFrom rules 0 l s .values)) (split rules fs n enough)
+          ap (λ (l : List (List ℕ)). take (length rules) (scanFrom rules 0 l s .values)) (filled-split rules fs n enough)
           ∙ ap (λ (k : ℕ). take k (scanFrom rules 0 (filledUp rules fs ++ replicate behind []) s .values)) (sym filled-length)
           ∙ scan-first rules (filledUp rules fs) (replicate behind []) s (omega (arith, filled-length)) (fresh .ten)
 
@@ -143,6 +145,7 @@ line-read (Listed i m each) ten blank raw n s fresh enough sound =
       flag = flagged rules ten raw n s fresh ∙ blanks-split outsideField rules 0 (list-passes outsideField each refl (blank .1)) 0 (trimEnd empty raw) n zero-le;
       values = listed-values rules ten raw n s fresh sound;
       few = omega (arith, c, short rules ten raw n s fresh sound);
+      left = c;
       ten = long rules ten raw n s fresh;
     }
 line-read (Once i rules) ten blank raw n s fresh enough sound =
@@ -152,5 +155,6 @@ line-read (Once i rules) ten blank raw n s fresh enough sound =
       flag = named-flag rules ten raw n s fresh sound enough;
       values = named-values rules ten raw n s fresh sound enough;
       few = omega (arith, c, short rules ten raw n s fresh sound);
+      left = c;
       ten = long rules ten raw n s fresh;
     }

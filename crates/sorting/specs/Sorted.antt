@@ -43,7 +43,7 @@ MayGoOn (Refused number) r w = Unit
 MayGoOn (Passed free) r w = Unit
 MayGoOn Named r w = Unit
 MayGoOn Last r w = Unit
-MayGoOn (Fields item) r w = Due (r .phase) item w
+MayGoOn (Fields item) r w = Due (r .phase) (timeIs (r .time)) item w
 
 pub record SortedIs (x : Sorted) (r : Reading) (w l : List ℕ) : Type 0 where
   pub event : readLine (readingIs r w) l ≡ sortedEvent x r w l
@@ -94,7 +94,7 @@ module _ (r : Reading) (w l : List ℕ) (plain : foreign l ≡ false) (h : Head)
     pub last : p ≡ placed.Last → SortedIs Last r w l
     last z = record { event = rw z at placed-so; onward = tt }
 
-    pub with-fields : (item : ℕ) → p ≡ placed.Fields item → MayRead p (r .phase) w → SortedIs (Fields item) r w l
+    pub with-fields : (item : ℕ) → p ≡ placed.Fields item → MayRead p (r .phase) (timeIs (r .time)) w → SortedIs (Fields item) r w l
     with-fields item z due =
         let e = rw z at placed-so in
         record { event = e ∙ ap (λ (form : Form). fieldsEvent item (readingIs r w) (fieldsOf form l)) (form-in r w); onward = rw z at due }

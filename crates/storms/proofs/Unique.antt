@@ -7,6 +7,8 @@ use Rattle.storms.proofs.rain_at.Kinds as rain-at
 use Rattle.storms.proofs.rain_at.Reads as rain-at-says
 use Rattle.storms.proofs.is_dry.Kinds as is-dry
 use Rattle.storms.proofs.is_dry.Reads as is-dry-says
+use Rattle.storms.proofs.list_rain.Kinds as list-rain
+use Rattle.storms.proofs.list_rain.Reads as list-rain-says
 use Rattle.storms.proofs.cut.Kinds as cut
 use Rattle.storms.proofs.cut.Reads as cut-says
 use Rattle.storms.proofs.storm_into.Kinds as storm-into
@@ -17,6 +19,9 @@ one-rain-at κs a x y e f p q = ap (λ (n : ℕ). record { 0 = n }) (p ∙ sym q
 
 pub one-is-dry : Once is-dry.ps is-dry.r is-dry-says.Post (λ κs x y e f. x ≡ y)
 one-is-dry κs a x y e f p q = p ∙ sym q
+
+pub one-list-rain : Once list-rain.ps list-rain.r list-rain-says.Post (λ κs x y e f. (x ≡ y) × (now (e .0) ≡ now (f .0)))
+one-list-rain κs a x y e f p q = (p .1 ∙ sym (q .1), p .0 ∙ sym (q .0))
 
 pub one-cut : Once cut.ps cut.r cut-says.Post (λ κs x y e f. now (e .0) ≡ now (f .0))
 one-cut κs a x y e f p q = p ∙ sym q

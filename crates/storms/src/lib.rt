@@ -33,7 +33,7 @@ pub fn is_dry(rains: &[u64], intervals: usize) -> bool
 }
 
 // The rain listed for every interval, and what it adds up to.
-fn list_rain(rain: &mut [u64], rains: &[u64]) -> u64
+pub fn list_rain(rain: &mut [u64], rains: &[u64]) -> u64
     requires { ⌜ length (now rain) ≤ mostOrdinates ⌝ }
     requires { ⌜ AllUpTo 200_000 (now rains) ⌝ }
     ensures { λ _. ⌜ now (rain .exit) ≡ rainOf (now (rains .entry)) (length (now (rain .entry))) ⌝ }

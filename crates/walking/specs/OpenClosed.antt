@@ -5,16 +5,16 @@ use Prim.Native.Nat.{ℕ, _+_, _-_}
 use mathlib.Core.Path.{_≡_, refl, sym, _∙_}
 use mathlib.Core.List.{List, [], _∷_, _++_}
 use native.Mathlib.Omega.{arith}
-use lib.ListN.{length, length-append}
+use lib.ListN.{length, getD, length-append}
 use Rattle.meaning.specs.Results.{Result}
 use Rattle.meaning.specs.Run as run
-use Rattle.meaning.specs.Run.{Standing, openRefusal, closed, withResult}
+use Rattle.meaning.specs.Run.{Run, withResult, openRefusal}
 use Rattle.limits.specs.Within.{ReadingWithin}
 use Rattle.fields.specs.Spans.{formOf}
 use Rattle.placing.specs.declared.Phase.{Phase}
 use Rattle.placing.specs.declared.Phase.the-variants as phase
 use Rattle.placing.specs.declared.Reading.{Reading}
-use Rattle.blocks.specs.Meant.{timeIs}
+use Rattle.blocks.specs.Meant.{ratiosIs, timeIs}
 use Rattle.placing.specs.Readings.{readingIs, readingBy, blockIs}
 use Rattle.placing.specs.Labels.{name-short}
 use Rattle.stack.specs.declared.Stack.{Stack}
@@ -22,54 +22,63 @@ use Rattle.stack.specs.View.{view}
 use Rattle.turns.specs.declared.Finished.{Finished}
 use Rattle.closing.specs.ToldResult.{resultOf, told-number}
 use Rattle.closing.specs.BetweenBlocks.{Carried, carried-more, HeldAfter, held-more}
-use Rattle.walking.specs.Going.{standing, CountBy, Finishes, ClosedBy}
+use Rattle.passes.specs.One.{one-refusal}
+use Rattle.walking.specs.OneRun.{standing, closedRun}
+use Rattle.walking.specs.Going.{CountBy, runOf, readingUnder, Finishes, ClosedBy}
 
-pub record ClosedWell (named n m : ℕ) (q : run.Reading) (s : Standing) (nq : ℕ) (x : Finished) (work ordinates records : List ℕ) : Type 0 where
-  pub held-is : view (x .held) nq work ≡ closed q s .held
-  pub held : HeldAfter (length (closed q s .results)) (x .held) nq work
-  pub carried : Carried named nq n m (closed q s .results) ordinates records
+pub record ClosedWell (named n m : ℕ) (q : run.Reading) (was : Run) (nq : ℕ) (x : Finished) (work ordinates records : List ℕ) : Type 0 where
+  pub held-is : view (x .held) nq work ≡ closedRun q was .held
+  pub held : HeldAfter (length (closedRun q was .results)) (x .held) nq work
+  pub carried : Carried named nq n m (closedRun q was .results) ordinates records
 
-module _ (named n m : ℕ) (r : Reading) (h : Stack) (blocks : ℕ) (x : Finished) (work work′ ordinates ordinates′ records records′ cards : List ℕ) (rs : List Result) where
+module _ (named place n m : ℕ) (r : Reading) (h : Stack) (blocks : ℕ) (x : Finished) (work work′ ordinates ordinates′ records records′ cards : List ℕ) (rs : List Result) where
   abbrev reading : Phase → run.Reading
   reading p = readingBy p (timeIs (r .time)) (formOf (r .free)) (blockIs r cards)
 
-  abbrev now-standing : Standing
-  now-standing = standing blocks (view h (r .time .ordinates) work) rs
+  -- under the ratio, and the run that the block is closed in
+  abbrev here : Reading
+  here = readingUnder place r
 
-  number-by : (p : Phase) → ClosedBy p r h blocks named x work work′ ordinates ordinates′ records records′ cards → x .refusal ≡ openRefusal (reading p) now-standing
+  abbrev was : Run
+  was = runOf place r h rs work
+
+  number-by : (p : Phase) → ClosedBy p here h blocks named x work work′ ordinates ordinates′ records records′ cards → x .refusal ≡ openRefusal (reading p) (standing p blocks was)
   number-by phase.BeforeTime c = c .0
   number-by phase.BeforeBlocks c = c .0
-  number-by phase.InBlock c = c .number ∙ told-number (c .closes)
+  number-by phase.InBlock c =
+      c .number ∙ told-number (c .closes)
+      ∙ sym (one-refusal (getD (ratiosIs (r .time .ratios)) place 100) (timeIs (r .time)) (formOf (r .free)) (blockIs r cards) blocks (view h (r .time .ordinates) work) rs)
 
-  pub closed-number : ClosedBy (r .phase) r h blocks named x work work′ ordinates ordinates′ records records′ cards → x .refusal ≡ openRefusal (readingIs r cards) now-standing
+  pub closed-number : ClosedBy (r .phase) here h blocks named x work work′ ordinates ordinates′ records records′ cards
+      → x .refusal ≡ openRefusal (readingIs r cards) (standing (r .phase) blocks was)
   closed-number c = number-by (r .phase) c
 
   module _ (held : HeldAfter (length rs) h (r .time .ordinates) work) (carried : Carried named (r .time .ordinates) n m rs ordinates records) (lw : length work′ ≡ length work)
       (lo : length ordinates′ ≡ length ordinates) (lr : length records′ ≡ length records) (none : x .refusal ≡ 0) where
-    idle : (q : run.Reading) → closed q now-standing ≡ now-standing → (x .refusal ≡ 0) × (x .held ≡ h) × (work′ ≡ work) × (ordinates′ ≡ ordinates) × (records′ ≡ records)
-        → ClosedWell named n m q now-standing (r .time .ordinates) x work′ ordinates′ records′
+    idle : (q : run.Reading) → closedRun q was ≡ was → (x .refusal ≡ 0) × (x .held ≡ h) × (work′ ≡ work) × (ordinates′ ≡ ordinates) × (records′ ≡ records)
+        → ClosedWell named n m q was (r .time .ordinates) x work′ ordinates′ records′
     idle q e c = record { held-is = rw (e, c .1, c .2); held = rw (e, c .1, c .2) held; carried = rw (e, c .3, c .4) carried }
 
     well-by : (p : Phase) → ReadingWithin (reading p) → CountBy p blocks (length rs) (h .depth)
-        → ClosedBy p r h blocks named x work work′ ordinates ordinates′ records records′ cards
-        → ClosedWell named n m (reading p) now-standing (r .time .ordinates) x work′ ordinates′ records′
+        → ClosedBy p here h blocks named x work work′ ordinates ordinates′ records records′ cards
+        → ClosedWell named n m (reading p) was (r .time .ordinates) x work′ ordinates′ records′
     unfolding withResult
     well-by phase.BeforeTime w k c = idle (reading phase.BeforeTime) refl c
     well-by phase.BeforeBlocks w k c = idle (reading phase.BeforeBlocks) refl c
     well-by phase.InBlock w k c =
         let b = blockIs r cards in
         let count : blocks - 1 ≡ length rs = omega arith in
-        let f : Finishes (timeIs (r .time)) b h named (length rs) x work work′ ordinates ordinates′ records records′ = rw count at c in
+        let f : Finishes (timeIs (here .time)) b h named (length rs) x work work′ ordinates ordinates′ records records′ = rw count at c in
         let sound = sym (f .number) ∙ none in
         let keeps = f .closes .keeps sound in
-        let long : length (rs ++ (resultOf (timeIs (r .time)) b h work ∷ [])) ≡ length rs + 1 = length-append rs (resultOf (timeIs (r .time)) b h work ∷ []) in
+        let long : length (rs ++ (resultOf (timeIs (here .time)) b h work ∷ [])) ≡ length rs + 1 = length-append rs (resultOf (timeIs (here .time)) b h work ∷ []) in
         record {
           held-is = rw (f .held) (keeps .held);
-          held = rw (f .held, long) (held-more (timeIs (r .time)) b (length rs) h (f .closed .held) work work′ held lw keeps);
+          held = rw (f .held, long) (held-more (timeIs (here .time)) b (length rs) h (f .closed .held) work work′ held lw keeps);
           carried = carried-more rs (f .closes) sound (name-short (b .name) (w .1 .name)) (f .copied none) (f .written none) lo lr carried;
         }
 
     pub closed-well : ReadingWithin (readingIs r cards) → CountBy (r .phase) blocks (length rs) (h .depth)
-        → ClosedBy (r .phase) r h blocks named x work work′ ordinates ordinates′ records records′ cards
-        → ClosedWell named n m (readingIs r cards) now-standing (r .time .ordinates) x work′ ordinates′ records′
+        → ClosedBy (r .phase) here h blocks named x work work′ ordinates ordinates′ records records′ cards
+        → ClosedWell named n m (readingIs r cards) was (r .time .ordinates) x work′ ordinates′ records′
     closed-well w k c = well-by (r .phase) w k c

@@ -3,16 +3,17 @@ use Prim.Native.Nat.{ℕ, _≤_, zero-le}
 use mathlib.Core.Path.{_≡_, refl, _∙_}
 use mathlib.Core.List.{List, []}
 use lib.ListN.{length, replicate}
-use Rattle.meaning.specs.Run.{worked, workSize}
+use Rattle.meaning.specs.Run.{workedUnder, workSize}
+use Rattle.passes.specs.Apart.{ratioCount}
 use Rattle.closing.specs.BetweenBlocks.{carried-none, held-none}
 use Rattle.turns.specs.declared.State.{State}
 use Rattle.walking.specs.Going.{Going}
 use Rattle.turns.specs.Turns.{StateBegins}
 
-module _ (deck : List ℕ) (named : ℕ) (s : State) (work ordinates records cards : List ℕ) where
+module _ (deck : List ℕ) (named place : ℕ) (s : State) (work ordinates records cards : List ℕ) where
   pub starts : StateBegins s cards → workSize ≤ length work → ordinates ≡ replicate (length ordinates) 0 → records ≡ replicate (length records) 0
-      → Going deck named (length ordinates) (length records) s work ordinates records cards
-  unfolding worked
+      → Going deck named place (length ordinates) (length records) s work ordinates records cards
+  unfolding workedUnder ratioCount
   starts b enough no-flow untold =
       let c = carried-none named (s .reading .time .ordinates) (length ordinates) (length records) in
       record {
@@ -23,6 +24,7 @@ module _ (deck : List ℕ) (named : ℕ) (s : State) (work ordinates records car
         within = rw (b .reading .is) tt;
         held = rw (b .held) (held-none (s .reading .time .ordinates) work (b .reading .ready .few-ordinates) enough);
         count = rw (b .reading .phase, b .blocks, b .held) (refl, refl, refl);
+        ratios = rw (b .reading .is, b .reading .phase, b .at) (refl, b .reading .none-listed);
         carried = record { names = tt; n-long = refl; m-long = refl; flow = no-flow ∙ c .flow; told = λ h. untold ∙ c .told h };
-        walked = rw (b .reading .is, b .at, b .line, b .blocks, b .held) refl;
+        walked = rw (b .reading .is, b .reading .phase, b .at, b .line, b .blocks, b .held) refl;
       }

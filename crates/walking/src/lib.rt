@@ -7,7 +7,8 @@ ghost use Rattle.meaning.specs.Run.{workSize};
 ghost use Rattle.records.specs.Rows.{wordsOf};
 ghost use Rattle.blocks.specs.Meant.{timeIs};
 ghost use Rattle.placing.specs.Readings.{blockIs};
-ghost use Rattle.walking.specs.Going.{MayFinish, Finishes, MayClose, ClosedBy, Going, TurnIs, WorkedIs};
+ghost use Rattle.walking.specs.Going.{MayFinish, Finishes, MayClose, ClosedBy, Going, readingUnder, TurnIs, WalkedIs};
+use blocks::Ratios;
 use placing::Phase;
 use placing::Reading;
 use reading::Event;
@@ -87,18 +88,36 @@ fn close_open(
     }
 }
 
+// The reading with the ratio at that place in force.
+fn read_under(r: Reading, place: usize) -> Reading
+    requires { ⌜ r .time .ratios .count ≤ 9 ⌝ }
+    ensures { λ x. ⌜ x ≡ readingUnder place r ⌝ }
+{
+    let phase = r.phase;
+    let name = r.name;
+    let time = r.time;
+    let ratios = time.ratios;
+    Reading {
+        phase: phase,
+        free: r.free,
+        time: blocks::under(time, blocks::ratio_at(ratios, place)),
+        name: name,
+    }
+}
+
 // Reads on to the next block's opening or the deck's end, and does what is due there.
 fn step(
     deck: &[u8],
     named: usize,
+    place: usize,
     s: State,
     work: &mut [u64],
     ordinates: &mut [u64],
     records: &mut [u8],
     cards: &mut [u64],
 ) -> Turn
-    requires { ⌜ Going (now deck) named (length (now ordinates)) (length (now records)) s (now work) (now ordinates) (now records) (now cards) ⌝ }
-    ensures { λ t. ⌜ TurnIs (now (deck .entry)) named (length (now (ordinates .entry))) (length (now (records .entry))) (s .at) t (now (work .exit)) (now (ordinates .exit)) (now (records .exit)) (now (cards .exit)) ⌝ }
+    requires { ⌜ Going (now deck) named place (length (now ordinates)) (length (now records)) s (now work) (now ordinates) (now records) (now cards) ⌝ }
+    ensures { λ t. ⌜ TurnIs (now (deck .entry)) named place (length (now (ordinates .entry))) (length (now (records .entry))) s t (now (work .exit)) (now (ordinates .exit)) (now (records .exit)) (now (cards .exit)) ⌝ }
 {
     let got = reading::read_on(deck, s.at, s.line, s.reading, cards);
     let event = got.event;
@@ -109,7 +128,7 @@ fn step(
         Event::Missing => return turns::stop(s, 16, 0),
     };
     let closed = close_open(
-        got.reading,
+        read_under(got.reading, place),
         s.held,
         s.blocks,
         named,
@@ -132,24 +151,43 @@ fn step(
     turns::open_next(s, got.reading, got.name, got.at, got.line, closed, cards)
 }
 
-// The whole deck, block after block. What is lent for results holds zeros before.
+// A deck walked: what it came to, and the ratios in force where it did, none before its first block.
+pub struct Walked {
+    pub worked: Worked,
+    pub ratios: Ratios,
+}
+
+// The ratios that a state has.
+fn ratios_in(s: State) -> Ratios
+    ensures { λ r. ⌜ r ≡ s .reading .time .ratios ⌝ }
+{
+    let reading = s.reading;
+    let time = reading.time;
+    let ratios = time.ratios;
+    ratios
+}
+
+// The whole deck, block after block, under the ratio at a place. What is lent for results holds zeros before.
 pub fn walk_deck(
     deck: &[u8],
     named: usize,
+    place: usize,
     work: &mut [u64],
     ordinates: &mut [u64],
     records: &mut [u8],
     cards: &mut [u64],
-) -> Worked
+) -> Walked
     requires { ⌜ (workSize ≤ length (now work)) × (wordsOf table ≤ length (now cards)) ⌝ }
     requires { ⌜ (now ordinates ≡ replicate (length (now ordinates)) 0) × (now records ≡ replicate (length (now records)) 0) ⌝ }
-    ensures { λ w. ⌜ WorkedIs (now (deck .entry)) named (length (now (ordinates .entry))) (length (now (records .entry))) w (now (ordinates .exit)) (now (records .exit)) ⌝ }
+    ensures { λ w. ⌜ WalkedIs (now (deck .entry)) named place (length (now (ordinates .entry))) (length (now (records .entry))) w (now (ordinates .exit)) (now (records .exit)) ⌝ }
 {
     let mut s = turns::first_state(cards);
     loop {
-        let t = step(deck, named, s, work, ordinates, records, cards);
+        let t = step(deck, named, place, s, work, ordinates, records, cards);
         if t.ended {
-            return t.worked;
+            let worked = t.worked;
+            let ratios = ratios_in(s);
+            return Walked { worked, ratios };
         }
         s = t.state;
     }

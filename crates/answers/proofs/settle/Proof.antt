@@ -16,7 +16,7 @@ returns-2 c =
     let test = c .before .before .before .before in
     let x = test .before .before .before .before .before .args in
     passed _ (sym (test .before .lacks-room .ensures) ∙ test .if1 .left)
-    (zeros-accept (x .nq) (x .blocks) (x .work .now) _ (x .ordinates .now) (x .records .now) (c .before .before .zero-words .ensures))
+    (zeros-accept (x .nq) (x .blocks) (x .ratios) (x .work .now) _ (x .ordinates .now) (x .records .now) (c .before .before .zero-words .ensures))
 
 pub settle-spec : {M : Type 1} → statement M
 settle-spec =

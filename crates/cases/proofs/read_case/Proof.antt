@@ -9,14 +9,16 @@ returns c =
     let records = c .before in
     let ordinates = records .before in
     let work = ordinates .before in
-    let named = work .before in
+    let ratio = work .before in
+    let named = ratio .before in
     let b = named .before .before .args .b .now in
     case-of b
     (named .number-at .ensures)
-    (work .number-at2 .ensures)
-    (ordinates .number-at3 .ensures)
-    (records .number-at4 .ensures)
-    (c .number-at5 .ensures)
+    (ratio .number-at2 .ensures)
+    (work .number-at3 .ensures)
+    (ordinates .number-at4 .ensures)
+    (records .number-at5 .ensures)
+    (c .number-at6 .ensures)
 
 pub read-case-spec : {M : Type 1} → statement M
 read-case-spec =
@@ -27,4 +29,5 @@ read-case-spec =
     (λ c κs. search needs)  -- number-at-requires-3
     (λ c κs. search needs)  -- number-at-requires-4
     (λ c κs. search needs)  -- number-at-requires-5
+    (λ c κs. search needs)  -- number-at-requires-6
     returns)

@@ -1,57 +1,80 @@
--- What the engine answers prints the deck's listing, by `accepted-prints` and `refused-prints`: the records of no more blocks than are lent for, or the one line.
-use Prim.Native.Nat.{_≤_}
-use mathlib.Core.Path.{_≡_}
+-- What the engine answers prints the deck's listing, by `accepted-prints` and `refused-prints`: the records of no more blocks and ratios than are lent for, or the one line.
+use mathlib.Core.Path.{_≡_, sym}
+use mathlib.Core.List.{List}
+use Prim.Native.Nat.{ℕ}
 use native.Mathlib.Omega.{arith}
+use lib.ListN.{length}
+use lib.Seq.{length-take-le}
 use borrow.Author.Needs.{needs}
-use Rattle.meaning.specs.Listing.{listing}
-use Rattle.printing.specs.Lines.{listingOf}
 use Rattle.text.specs.Counted.{written-counted}
-use Rattle.meaning.specs.Run.{mostBlocks}
-use Rattle.listing.specs.Printed.{accepted-prints, refused-prints}
+use Rattle.listing.specs.Printed.{few-roomy, accepted-few, accepted-prints, refused-prints}
 use Rattle.listing.proofs.list_deck.Statement.{statement}
 use Rattle.listing.proofs.list_deck.Tie as tie
 
--- of an accepted run
-abbrev ran : (c : tie.After-blocks2) → tie.After-run
-ran c = c .before .before .before .before .before
+-- THE RUN, with the deck that it began with
+abbrev Ran : Type 0
+Ran = tie.After-run-listed
 
-accepted : (c : tie.After-blocks2)
-    → (c .blocks2 .given .0 .1 .0 ≤ mostBlocks)
-    × (listingOf (ran c .run .last .1 .1 .1 .1 .0) (c .blocks2 .given .0 .1 .0) ≡ listing (ran c .before .before .before .before .before .before .args .deck .now))
-accepted c =
-    let x = ran c .before .before .before .before .before .before .args in
-    accepted-prints (x .deck .now) (ran c .run .result) (ran c .run .ensures) (omega arith) (omega arith) (omega arith) (c .blocks2 .given .1)
+abbrev deck : Ran → List ℕ
+deck c = c .before .before .before .before .before .before .args .deck .now
+
+-- ACCEPTED
+abbrev Accepted : Type 0
+Accepted = tie.After-answer
+
+abbrev ran : Accepted → Ran
+ran c = c .before .before .before .before .before .before .before
+
+array-share-prefix-listed : tie.Need-array-share-prefix-listed
+array-share-prefix-listed c =
+    let r = ran (c .before .before .before) .run-listed in
+    let nine : length (r .result .ratios .values) ≡ 9 = search needs in
+    omega (arith, r .ensures .1 .1)
+
+slice-aggregate-write-listing-2 : tie.Need-slice-aggregate-write-listing-2
+slice-aggregate-write-listing-2 c = sym (length-take-le _ _ (array-share-prefix-listed (c .before)))
 
 write-listing-requires : tie.Need-write-listing-requires
-write-listing-requires c κs = omega (arith, accepted (c .before .before .before) .0)
+write-listing-requires c κs =
+    let told = c .before .before .before .before in
+    let r = ran told in
+    few-roomy _ _
+    (accepted-few (deck r) (r .run-listed .result .answer) (r .run-listed .ensures .0) (omega arith) (omega arith) (omega arith) (told .answer .given .1) (omega arith) (r .run-listed .ensures .1 .0))
+    _ _ (omega arith) (omega arith)
 
 returns : tie.Need-returns
 returns c =
+    let told = c .before .before .before .before .before .before .before in
+    let r = ran told in
     let w = c .before .before .write-listing .ensures in
-    (rw (accepted (c .before .before .before .before .before .before) .1) at w, written-counted w)
+    let printed =
+    accepted-prints (deck r) (r .run-listed .result .answer) (r .run-listed .ensures .0) (omega arith) (omega arith) (omega arith) (told .answer .given .1) w (omega arith)
+    (r .run-listed .ensures .1 .0) in
+    (printed, written-counted w)
 
 returns-2 : tie.Need-returns-2
 returns-2 c =
     let told = c .before .before .before .before .before in
-    let ran = told .before .before .before .before .before in
-    let x = ran .before .before .before .before .before .before .args in
+    let r = told .before .before .before .before .before .before .before in
     let w = c .before .before .write-refusal .ensures in
     let printed =
-    refused-prints (x .deck .now) (ran .run .result) (ran .run .ensures) (omega arith) (omega arith) (omega arith) (told .number .given .1) w (omega arith) (omega arith) in
+    refused-prints (deck r) (r .run-listed .result .answer) (r .run-listed .ensures .0) (omega arith) (omega arith) (omega arith) (told .answer2 .given .1) w (omega arith) (omega arith) in
     (printed, written-counted w)
 
 pub list-deck-spec : {M : Type 1} → statement M
 list-deck-spec =
     tie.close
     (tie.spec
-    (λ c. search needs)  -- slice-aggregate-run
-    (λ c. search needs)  -- slice-aggregate-run-2
-    (λ c. search needs)  -- slice-aggregate-run-3
-    (λ c κs. search needs)  -- run-requires
-    (λ c. search needs)  -- enum-known-blocks
+    (λ c. search needs)  -- slice-aggregate-run-listed
+    (λ c. search needs)  -- slice-aggregate-run-listed-2
+    (λ c. search needs)  -- slice-aggregate-run-listed-3
+    (λ c κs. search needs)  -- run-listed-requires
+    (λ c. search needs)  -- enum-known-answer
     (λ c. search needs)  -- slice-aggregate-write-listing
+    array-share-prefix-listed
+    slice-aggregate-write-listing-2
     write-listing-requires
-    (λ c. search needs)  -- enum-known-number
+    (λ c. search needs)  -- enum-known-answer-2
     (λ c κs. search needs)  -- write-refusal-requires
     (λ c. search needs)  -- same-length
     returns

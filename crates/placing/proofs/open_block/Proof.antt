@@ -18,7 +18,7 @@ returns c =
       is = rw (c .before .before .before .clear .ensures .0 (nameIs (s .args .name)));
       phase = refl;
       time = refl;
-      ready = record { few-ordinates = ready .few-ordinates; short-name = s .pre .0; readable = counted-readable kept; counted = λ e. kept };
+      ready = record { few-ordinates = ready .few-ordinates; short-name = s .pre .0; few-ratios = ready .few-ratios; readable = counted-readable kept; counted = λ e. kept };
     }
 
 pub open-block-spec : {M : Type 1} → statement M

@@ -1,7 +1,8 @@
 -- The word, the number and the line's end, one behind another.
 use native.Mathlib.Omega.{arith}
+use Rattle.meaning.specs.Listing.{endLine}
 use Rattle.text.specs.Written.{written-more}
-use Rattle.printing.specs.Lines.{endLine, length-end}
+use Rattle.printing.specs.Lines.{length-end}
 use borrow.Author.Needs.{needs}
 use Rattle.printing.proofs.write_end.Statement.{statement}
 use Rattle.printing.proofs.write_end.Tie as tie

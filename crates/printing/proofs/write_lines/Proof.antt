@@ -14,10 +14,10 @@ use Rattle.printing.proofs.write_lines.Statement.{statement}
 use Rattle.printing.proofs.write_lines.Tie as tie
 
 abbrev Inv-loop : tie.InvT-loop
-Inv-loop out₀ records blocks at₀ k₀ out at k = (k ≤ blocks) × (length out ≡ length out₀) × Written out₀ 0 (linesTo k records) out at
+Inv-loop out₀ start records blocks at₀ k₀ out at k = (k ≤ blocks) × (length out ≡ length out₀) × Written out₀ start (linesTo k records) out at
 
 abbrev μ-loop : tie.MeasureT-loop
-μ-loop out₀ records blocks at₀ k₀ out at k = blocks - k
+μ-loop out₀ start records blocks at₀ k₀ out at k = blocks - k
 
 loop-holds : tie.Need-loop-holds Inv-loop μ-loop
 loop-holds c = (omega arith, refl, written-none _ _)

@@ -16,11 +16,13 @@ use Rattle.fields.specs.Turns.{first-stands}
 use Rattle.records.specs.Rows.{rulesBy}
 use Rattle.scanning.specs.FieldsLeft.{left-less, left-near}
 use Rattle.reading.specs.declared.Event.the-variants as event
-use Rattle.placing.specs.Places.{due-known}
-use Rattle.reading.specs.AtLine.{goes, opens-block, ends-deck, foreign-found, none-found, pass-fault, fault-event, ready-form, name-bad, name-good, unless-met, unless-none, fault-here, fault-later, scan-later}
+use Rattle.blocks.specs.Meant.{timeIs}
+use Rattle.placing.specs.Places.{due-known, due-time}
+use Rattle.placing.specs.Taken.{stays}
+use Rattle.reading.specs.AtLine.{goes, opens-block, ends-deck, foreign-found, none-found, pass-fault, fault-event, ready-form, name-bad, name-good, fault-here, fault-later, scan-later}
 use Rattle.reading.proofs.read_on.Statement.{statement}
 use Rattle.reading.proofs.read_on.Tie as tie
-use Rattle.reading.proofs.read_on.Proof.Points.{does, Inv-loop, μ-loop, Inv-line, μ-line, at-line, next, text, stood, item-at, form-at, fair, turn, short, moved, refused, onward, named, due, did, all-fields, more, few, small, read, taken, spanned, line-of, line-named, begun, ended}
+use Rattle.reading.proofs.read_on.Proof.Points.{does, Inv-loop, μ-loop, Inv-line, μ-line, at-line, next, text, stood, item-at, form-at, fair, turn, short, moved, refused, onward, named, due, did, all-fields, more, few, small, passed, ready-at, due-at, line-refused, line-moved, spanned, line-of, line-named, begun, ended}
 
 line-holds : tie.Need-line-holds Inv-loop μ-loop Inv-line μ-line
 line-holds c =
@@ -48,7 +50,7 @@ read-name-requires : tie.Need-read-name-requires Inv-loop μ-loop Inv-line μ-li
 read-name-requires c κs = short (c .before .before .before .before .before)
 
 named-fields-requires : tie.Need-named-fields-requires Inv-loop μ-loop Inv-line μ-line
-named-fields-requires c κs = due-known (at-line (line-of c) .line .r .phase) (item-at c) _ (due c)
+named-fields-requires c κs = due-known (at-line (line-of c) .line .r .phase) _ (item-at c) _ (due c)
 
 loop-holds : tie.Need-loop-holds Inv-loop μ-loop Inv-line μ-line
 loop-holds c =
@@ -98,10 +100,8 @@ loop-again c =
       },
     )
 
-take-line-requires : tie.Need-take-line-requires Inv-loop μ-loop Inv-line μ-line
-take-line-requires c κs =
-    let v = c .before .before .before .before .loop .inv in
-    ((rw (v .1, v .0) (at-line (line-of (ended (c .before .before))) .line .inv .ready), rw (v .1, v .0) (due (ended (c .before .before)))), record { fields = _; read = read (c .before .before) })
+take-item-requires : tie.Need-take-item-requires Inv-loop μ-loop Inv-line μ-line
+take-item-requires c κs = let p = c .before .before .before in ((c .before .before .if5 .taken, ready-at p, due-at p), passed p)
 
 line-less-2 : tie.Need-line-less-2 Inv-loop μ-loop Inv-line μ-line
 line-less-2 c = let f = fair (line-of (ended (c .before .before .before .before .before .before .before))) in omega arith
@@ -109,15 +109,23 @@ line-less-2 c = let f = fair (line-of (ended (c .before .before .before .before 
 line-again-2 : tie.Need-line-again-2 Inv-loop μ-loop Inv-line μ-line
 line-again-2 c =
     let p = c .before .before .before .before .before .before .before in
-    let at = line-of (ended p) in
-    let l = c .before .before .before .before .before .before .before .before .before .loop in
-    let v = l .inv in
-    let tl = c .before .before .before .before .take-line in
-    let none = c .before .if5 .left in
-    let long = tl .kept .1 .1 .1 .1 .0 ∙ ap length (v .0) in
-    let did = taken p (tl .result .refusal) _ _ _ (v .1) (v .0) (tl .ensures .event _ (read p)) in
-    moved at _ (tl .last .1 .1 .1 .1 .0) (l .values) (l .event) (tl .ensures .ready none) long (v .2 ∙ at-line at .line .inv .waiting) (v .3 .ten)
-    (goes (turn at) _ (did ∙ unless-none _ _ none))
+    let t = c .before .before .before .take-item in
+    line-moved p (stays (p .before .before .loop .r) (t .result)) (t .last .1 .1 .1 .1 .0) (t .ensures) (c .if6 .left) (t .kept .1 .1 .1 .1 .0)
+
+take-control-requires : tie.Need-take-control-requires Inv-loop μ-loop Inv-line μ-line
+take-control-requires c κs =
+    let p = c .before .before in
+    let l = p .before .before .loop in
+    (due-time (l .r .phase) (timeIs (l .r .time)) (item-at (ended p)) (l .cards) (due-at p) (c .before .if5 .left), passed p)
+
+line-less-3 : tie.Need-line-less-3 Inv-loop μ-loop Inv-line μ-line
+line-less-3 c = let f = fair (line-of (ended (c .before .before .before .before .before))) in omega arith
+
+line-again-3 : tie.Need-line-again-3 Inv-loop μ-loop Inv-line μ-line
+line-again-3 c =
+    let p = c .before .before .before .before .before in
+    let t = c .before .before .take-control in
+    line-moved p (t .result) (p .before .before .loop .cards) (t .ensures _ (ready-at p)) (c .before .if7 .left) refl
 
 same-length : tie.Need-same-length Inv-loop μ-loop Inv-line μ-line
 same-length c = c .before .line .inv .long
@@ -181,22 +189,29 @@ returns-6 c =
 
 same-length-7 : tie.Need-same-length-7 Inv-loop μ-loop Inv-line μ-line
 same-length-7 c =
-    let p = c .before .before .before .before .before .before in
-    c .before .before .before .take-line .kept .1 .1 .1 .1 .0 ∙ ap length (p .before .before .loop .inv .0) ∙ at-line (line-of (ended p)) .line .inv .long
+    let p = c .before .before .before .before .before .before .before in
+    c .before .before .before .take-item .kept .1 .1 .1 .1 .0 ∙ ap length (p .before .before .loop .inv .0) ∙ at-line (line-of (ended p)) .line .inv .long
 
 returns-7 : tie.Need-returns-7 Inv-loop μ-loop Inv-line μ-line
 returns-7 c =
-    let p = c .before .before .before .before .before .before in
-    let tl = c .before .before .before .take-line in
-    let v = c .before .before .before .before .before .before .before .before .loop .inv in
-    let did = taken p (tl .result .refusal) _ _ _ (v .1) (v .0) (tl .ensures .event _ (read p)) in
-    record { found = refused (line-of (ended p)) _ (did ∙ unless-met _ _ (c .if5 .taken)); onward = tt }
+    let p = c .before .before .before .before .before .before .before in
+    let t = c .before .before .before .take-item in
+    record { found = line-refused p (stays (p .before .before .loop .r) (t .result)) _ (t .ensures) (c .if6 .taken); onward = tt }
 
 same-length-8 : tie.Need-same-length-8 Inv-loop μ-loop Inv-line μ-line
-same-length-8 c = c .before .before .before .line .inv .long
+same-length-8 c = let p = c .before .before .before .before in ap length (p .before .before .loop .inv .0) ∙ at-line (line-of (ended p)) .line .inv .long
 
 returns-8 : tie.Need-returns-8 Inv-loop μ-loop Inv-line μ-line
 returns-8 c =
+    let p = c .before .before .before .before in
+    let t = c .before .take-control in
+    record { found = line-refused p (t .result) _ (t .ensures _ (ready-at p)) (c .if7 .taken); onward = tt }
+
+same-length-9 : tie.Need-same-length-9 Inv-loop μ-loop Inv-line μ-line
+same-length-9 c = c .before .before .before .line .inv .long
+
+returns-9 : tie.Need-returns-9 Inv-loop μ-loop Inv-line μ-line
+returns-9 c =
     let x = c .before .before .before .line in
     let s = c .before .before .before .before .before .before .before .args .s .now in
     let unfair = unfair-line s (x .at) (c .before .line-at .result) (omega arith) (c .before .line-at .ensures) (c .if1 .left) in
@@ -210,6 +225,6 @@ read-on-spec =
     (λ c. let f = fair c in omega arith) (λ c. let f = fair c in omega arith) sort-line-requires (λ c. search needs) (λ c. search needs) line-less line-again
     (λ c. search needs) read-name-requires (λ c. search needs) (λ c. search needs) named-fields-requires (λ c κs. search needs) loop-holds (λ c κs. search needs)
     next-span-requires (λ c. search needs) (λ c. let f = spanned (c .before) in omega arith) (λ c. let f = spanned (c .before) in omega arith)
-    (λ c. let f = spanned (c .before) in omega arith) note-field-requires add-i loop-less loop-again (λ c. search needs) take-line-requires
-    line-less-2 line-again-2 same-length returns same-length-2 returns-2 same-length-3 returns-3 same-length-4 returns-4 same-length-5 returns-5
-    same-length-6 returns-6 same-length-7 returns-7 same-length-8 returns-8)
+    (λ c. let f = spanned (c .before) in omega arith) note-field-requires add-i loop-less loop-again (λ c. search needs) take-item-requires
+    line-less-2 line-again-2 (λ c. search needs) take-control-requires line-less-3 line-again-3 same-length returns same-length-2 returns-2 same-length-3 returns-3 same-length-4 returns-4 same-length-5 returns-5
+    same-length-6 returns-6 same-length-7 returns-7 same-length-8 returns-8 same-length-9 returns-9)

@@ -1,6 +1,6 @@
 -- Each event is a turn of the walk: a refused line and a missing ZZ stop it, KK and ZZ are turns by their own laws.
 use Prim.Native.Nat.{ℕ, _+_}
-use mathlib.Core.Path.{_≡_, sym, _∙_, subst}
+use mathlib.Core.Path.{_≡_, refl, sym, _∙_, subst}
 use mathlib.Core.Bool.{true, false, true≢false, false≢true}
 use mathlib.Core.List.{List}
 use mathlib.Core.Logic.{_⊎_, inl, inr, ⊎-elim}
@@ -11,10 +11,12 @@ use Rattle.reading.specs.declared.Event.the-variants as event
 use Rattle.reading.specs.declared.Event.{Event}
 use Rattle.meaning.specs.Lines.{linesOf}
 use Rattle.events.specs.NextEvent.{nextEvent}
+use Rattle.placing.specs.declared.Reading.{Reading}
 use Rattle.placing.specs.Readings.{readingIs}
 use Rattle.reading.specs.Found.{FoundIs, Onward, OnwardBy}
 use Rattle.walking.specs.Events.{walk-missing, walk-refused}
-use Rattle.walking.specs.ReadingOn.{may-close}
+use Rattle.walking.specs.Going.{readingUnder, ClosedBy}
+use Rattle.walking.specs.ReadingOn.{found-counted, may-close}
 use Rattle.walking.specs.NextTurn.{kk-turn, zz-turn}
 use Rattle.walking.proofs.step.Statement.{statement}
 use Rattle.walking.proofs.step.Tie as tie
@@ -59,26 +61,49 @@ is-zz c h = ⊎-elim (λ w. absurd (false≢true (sym (w .1) ∙ h))) (λ w. w .
 onward : (c : tie.At-match-came) → Goes-on (read c)
 onward c = ⊎-elim (λ w. goes-by (read c) event.Opened (w .0)) (λ w. goes-by (read c) event.Ended (w .0)) (which c)
 
+read-under-requires : tie.Need-read-under-requires
+read-under-requires c κs = onward c .ready .few-ratios
+
 close-open-requires : tie.Need-close-open-requires
 close-open-requires c κs =
-    let m = c .before .before .before .before in
+    let u = c .before .before .before .before in
+    let m = u .before in
     let p = read m in
     let x = entry p .args in
     let g = p .read-on .result in
     let close =
-    may-close (x .deck .now) (x .named) (length (x .ordinates .now)) (length (x .records .now)) (x .s) (x .work .now) (x .ordinates .now) (x .records .now) (x .cards .now)
+    may-close (x .deck .now) (x .named) (x .place) (length (x .ordinates .now)) (length (x .records .now)) (x .s) (x .work .now) (x .ordinates .now) (x .records .now) (x .cards .now)
     (entry p .pre) in
-    ⊎-elim
+    rw (u .read-under .ensures)
+    (⊎-elim
     (λ w. close _ (g .reading) (g .line) _ (cards p) (found p event.Opened (w .0)) (onward m .ready))
     (λ w. close _ (g .reading) (g .line) _ (cards p) (found p event.Ended (w .0)) (onward m .ready))
-    (which m)
+    (which m))
 
--- the open block closed: what was read, and how it was closed
+-- the open block closed: the ratio in force, what was read, and how it was closed
+abbrev rated : tie.After-slice-known8 → tie.After-read-under
+rated c = c .before .before .before .before .before .before .before .before .before .before .before
+
 abbrev mark : tie.After-slice-known8 → tie.At-match-came
-mark c = c .before .before .before .before .before .before .before .before .before .before .before
+mark c = rated c .before
 
 abbrev closed : tie.After-slice-known8 → tie.After-close-open
 closed c = c .before .before .before .before .before .before
+
+closed-by : (c : tie.After-slice-known8)
+    → let x = entry (read (mark c)) .args in
+    let k = closed c .close-open in
+    let r = read (mark c) .read-on .result .reading in
+    ClosedBy (r .phase) (readingUnder (x .place) r) (x .s .held) (x .s .blocks) (x .named) (k .result) (x .work .now) (k .last .1 .1 .1 .1 .0)
+    (x .ordinates .now) (k .last .1 .1 .1 .1 .1 .0) (x .records .now) (k .last .1 .1 .1 .1 .1 .1 .0) (cards (read (mark c)))
+closed-by c =
+    let x = entry (read (mark c)) .args in
+    let k = closed c .close-open in
+    subst
+    (λ (u : Reading).
+    ClosedBy (u .phase) u (x .s .held) (x .s .blocks) (x .named) (k .result) (x .work .now) (k .last .1 .1 .1 .1 .0)
+    (x .ordinates .now) (k .last .1 .1 .1 .1 .1 .0) (x .records .now) (k .last .1 .1 .1 .1 .1 .1 .0) (cards (read (mark c))))
+    (rated c .read-under .ensures) (k .ensures)
 
 open-next-requires : tie.Need-open-next-requires
 open-next-requires c κs = let o = onward (mark (c .before .before)) in (o .letters, o .ready)
@@ -93,13 +118,19 @@ returns : tie.Need-returns
 returns c =
     let p = c .before .before .before .before .before .before in
     let f = found p _ (c .before .before .event .given .1) in
-    rw (c .stop .ensures .ended, c .stop .ensures .worked) (sym (entry p .pre .walked) ∙ walk-refused _ _ _ _ _ (f .0) (p .read-on .result .line) (f .1) (f .2))
+    rw (c .stop .ensures .ended, c .stop .ensures .worked) (
+      sym (entry p .pre .walked) ∙ walk-refused _ _ _ _ _ _ (f .0) (p .read-on .result .line) (f .1) (f .2),
+      found-counted _ _ _ _ _ _ _ _ _ _ (entry p .pre) _ (f .2) refl,
+    )
 
 returns-2 : tie.Need-returns-2
 returns-2 c =
     let p = c .before .before .before .before .before in
     let f = found p _ (c .before .enum-told3 .given .1) in
-    rw (c .stop2 .ensures .ended, c .stop2 .ensures .worked) (sym (entry p .pre .walked) ∙ walk-missing _ _ _ _ (f .0) (f .1) (f .2))
+    rw (c .stop2 .ensures .ended, c .stop2 .ensures .worked) (
+      sym (entry p .pre .walked) ∙ walk-missing _ _ _ _ _ (f .0) (f .1) (f .2),
+      found-counted _ _ _ _ _ _ _ _ _ _ (entry p .pre) _ (f .2) refl,
+    )
 
 same-length-6 : tie.Need-same-length-6
 same-length-6 c = cards-long (read (mark (c .before .before .before .before .before .before)))
@@ -112,8 +143,8 @@ returns-3 c =
     let is = is-zz m (c .before .before .before .before .before .if1 .taken) in
     let k = closed (c .before .before .before .before .before .before) .close-open in
     let t = c .before .before .end-deck in
-    zz-turn (x .deck .now) (x .named) (length (x .ordinates .now)) (length (x .records .now)) (x .s) (x .work .now) (x .ordinates .now) (x .records .now) (x .cards .now) (entry p .pre)
-    (p .read-on .result .reading) (p .read-on .result .line) (p .read-on .result .at) (cards p) (onward m .ready) (k .result) _ _ _ (k .ensures)
+    zz-turn (x .deck .now) (x .named) (x .place) (length (x .ordinates .now)) (length (x .records .now)) (x .s) (x .work .now) (x .ordinates .now) (x .records .now) (x .cards .now) (entry p .pre)
+    (p .read-on .result .reading) (p .read-on .result .line) (p .read-on .result .at) (cards p) (onward m .ready) (k .result) _ _ _ (closed-by (c .before .before .before .before .before .before))
     (k .kept .1 .1 .1 .1 .0) (k .kept .1 .1 .1 .1 .1 .0) (k .kept .1 .1 .1 .1 .1 .1 .0) (t .result) (found p _ is) _ (t .ensures)
 
 same-length-10 : tie.Need-same-length-10
@@ -128,8 +159,8 @@ returns-4 c =
     let o = onward m in
     let k = closed (c .before .before .before .before .before) .close-open in
     let t = c .before .before .open-next in
-    kk-turn (x .deck .now) (x .named) (length (x .ordinates .now)) (length (x .records .now)) (x .s) (x .work .now) (x .ordinates .now) (x .records .now) (x .cards .now) (entry p .pre)
-    (p .read-on .result .reading) (p .read-on .result .line) (p .read-on .result .at) (cards p) (o .ready) (k .result) _ _ _ (k .ensures)
+    kk-turn (x .deck .now) (x .named) (x .place) (length (x .ordinates .now)) (length (x .records .now)) (x .s) (x .work .now) (x .ordinates .now) (x .records .now) (x .cards .now) (entry p .pre)
+    (p .read-on .result .reading) (p .read-on .result .line) (p .read-on .result .at) (cards p) (o .ready) (k .result) _ _ _ (closed-by (c .before .before .before .before .before))
     (k .kept .1 .1 .1 .1 .0) (k .kept .1 .1 .1 .1 .1 .0) (k .kept .1 .1 .1 .1 .1 .1 .0) (t .result) (p .read-on .result .name) (found p _ is) (o .within) (o .counted) (o .forth) _ (t .ensures)
 
 pub step-spec : {M : Type 1} → statement M
@@ -138,5 +169,5 @@ step-spec =
     (tie.spec
     (λ c κs. search needs) (λ c. search needs) (λ c κs. search needs) (λ c. search needs) returns
     (λ c. search needs) (λ c. search needs) (λ c. search needs) (λ c κs. search needs) (λ c. search needs) returns-2
-    close-open-requires end-deck-requires (λ c. search needs) (λ c. search needs) (λ c. search needs) same-length-6 returns-3
+    read-under-requires close-open-requires end-deck-requires (λ c. search needs) (λ c. search needs) (λ c. search needs) same-length-6 returns-3
     open-next-requires (λ c. search needs) (λ c. search needs) (λ c. search needs) same-length-10 returns-4)

@@ -25,13 +25,16 @@ use Rattle.blocks.specs.declared.Name.{Name}
 use Rattle.reading.specs.declared.Event as events
 use Rattle.reading.specs.declared.Event.the-variants as event
 use Rattle.placing.specs.declared.Reading.{Reading}
+use Rattle.blocks.specs.Meant.{timeIs}
 use Rattle.placing.specs.Readings.{readingIs, Ready}
+use Rattle.placing.specs.declared.Read.{Read}
 use Rattle.placing.specs.Places.{Due, nameEvent, fieldsEvent}
+use Rattle.placing.specs.Taken.{Passed, LineTaken}
 use Rattle.sorting.specs.declared.Sorted.{Sorted}
 use Rattle.sorting.specs.Sorted.{SortedIs, known-as}
 use Rattle.sorting.specs.declared.Sorted.the-variants as sorted
 use Rattle.reading.specs.Found.{Onward}
-use Rattle.reading.specs.AtLine.{AtLine, refuses, pass-read}
+use Rattle.reading.specs.AtLine.{AtLine, goes, refuses, pass-read, unless-met, unless-none}
 use Rattle.reading.proofs.read_on.Tie as tie
 
 pub record Lines (s : List ℕ) (from before : ℕ) (cards₀ : List ℕ) (r₀ : Reading) (cards : List ℕ) (at n : ℕ) (r : Reading) (e : events.Event) (name : Name)
@@ -175,7 +178,7 @@ line-of c = c .before .before .before .before .before .before
 sorted-so : (c : Listing) → SortedIs (sorted.Fields (item-at c)) (at-line (line-of c) .line .r) (at-line (line-of c) .line .cards) (text (line-of c))
 sorted-so c = does (c .before .before .before) _ (c .before .item .given .1)
 
-pub due : (c : Listing) → Due (at-line (line-of c) .line .r .phase) (item-at c) (at-line (line-of c) .line .cards)
+pub due : (c : Listing) → Due (at-line (line-of c) .line .r .phase) (timeIs (at-line (line-of c) .line .r .time)) (item-at c) (at-line (line-of c) .line .cards)
 due c = sorted-so c .onward
 
 pub did : (c : Listing) → readLine (stood (line-of c)) (text (line-of c)) ≡ fieldsEvent (item-at c) (stood (line-of c)) (fieldsOf (form-at (line-of c)) (text (line-of c)))
@@ -240,11 +243,43 @@ read c =
     let fresh : Fresh start = record { none = refl; inside = refl; ten = at-line at .line .inv .ten } in
     rw scans (pass-read (item-at (ended c)) (form-at at) (text at) start fresh (sym faults))
 
+pub passed : (c : None) → Passed (item-at (ended c)) (scannedOf (c .before .before .loop .values) (c .before .before .loop .scan))
+passed c = record { fields = _; read = read c }
+
+-- the reading and the words are those where the line began
+pub ready-at : (c : None) → Ready (c .before .before .loop .r) (c .before .before .loop .cards)
+ready-at c = let v = c .before .before .loop .inv in rw (v .1, v .0) (at-line (line-of (ended c)) .line .inv .ready)
+
+due-same : {r r₀ : Reading} {w w₀ : List ℕ} (item : Item) → r ≡ r₀ → w ≡ w₀ → Due (r₀ .phase) (timeIs (r₀ .time)) item w₀ → Due (r .phase) (timeIs (r .time)) item w
+due-same item e₁ e₂ h = rw (e₁, e₂) h
+
+pub due-at : (c : None) → Due (c .before .before .loop .r .phase) (timeIs (c .before .before .loop .r .time)) (item-at (ended c)) (c .before .before .loop .cards)
+due-at c = let v = c .before .before .loop .inv in due-same (item-at (ended c)) (v .1) (v .0) (due (ended c))
+
+-- THE LINE TAKEN: it is refused, or the next line's turn follows
+abbrev pub TakenAt : None → Read → List ℕ → Type 0
+TakenAt c x cards =
+    LineTaken (c .before .before .loop .r) (item-at (ended c)) (scannedOf (c .before .before .loop .values) (c .before .before .loop .scan)) x (c .before .before .loop .cards) cards
+
 -- what taking it does, seen from where the line began
-pub taken : (c : None) (refusal : ℕ) (after : run.Reading) (r : Reading) (cards : List ℕ) → r ≡ at-line (line-of (ended c)) .line .r → cards ≡ at-line (line-of (ended c)) .line .cards
-    → unless refusal (Go after) ≡ fieldsEvent (item-at (ended c)) (readingIs r cards) (fieldsOf (form-at (line-of (ended c))) (text (line-of (ended c))))
-    → readLine (stood (line-of (ended c))) (text (line-of (ended c))) ≡ unless refusal (Go after)
-taken c refusal after r cards e₁ e₂ h =
+taken : (c : None) (x : Read) (cards : List ℕ) → TakenAt c x cards
+    → readLine (stood (line-of (ended c))) (text (line-of (ended c))) ≡ unless (x .refusal) (Go (readingIs (x .reading) cards))
+taken c x cards t =
+    let v = c .before .before .loop .inv in
+    let fs = fieldsOf (form-at (line-of (ended c))) (text (line-of (ended c))) in
     did (ended c)
-    ∙ sym (h ∙ ap (λ (q : Reading). fieldsEvent (item-at (ended c)) (readingIs q cards) (fieldsOf (form-at (line-of (ended c))) (text (line-of (ended c))))) e₁
-    ∙ ap (λ (w : List ℕ). fieldsEvent (item-at (ended c)) (readingIs (at-line (line-of (ended c)) .line .r) w) (fieldsOf (form-at (line-of (ended c))) (text (line-of (ended c))))) e₂)
+    ∙ sym (t .event fs (read c) ∙ ap (λ (q : Reading). fieldsEvent (item-at (ended c)) (readingIs q (c .before .before .loop .cards)) fs) (v .1)
+    ∙ ap (λ (w : List ℕ). fieldsEvent (item-at (ended c)) (readingIs (at-line (line-of (ended c)) .line .r) w) fs) (v .0))
+
+pub line-refused : (c : None) (x : Read) (cards : List ℕ) → TakenAt c x cards → (x .refusal ≡ 0 → ⊥)
+    → (q : run.Reading) × (later : List (List ℕ)) × (sought (line-of (ended c)) ≡ Met (Refuse (x .refusal)) q (at-line (line-of (ended c)) .line .n + 1) later)
+line-refused c x cards t some = refused (line-of (ended c)) _ (taken c x cards t ∙ unless-met _ _ some)
+
+pub line-moved : (c : None) (x : Read) (cards : List ℕ) → TakenAt c x cards → x .refusal ≡ 0 → length cards ≡ length (c .before .before .loop .cards)
+    → Lines (deck (line-of (ended c))) (begin (line-of (ended c)) .args .from) (begin (line-of (ended c)) .args .before) (begin (line-of (ended c)) .args .cards .now)
+    (begin (line-of (ended c)) .args .start) cards (next (line-of (ended c))) (at-line (line-of (ended c)) .line .n + 1) (x .reading) (c .before .before .loop .event)
+    (at-line (line-of (ended c)) .line .name) (c .before .before .loop .values)
+line-moved c x cards t none long =
+    let at = line-of (ended c) in
+    let v = c .before .before .loop .inv in
+    moved at (x .reading) cards _ _ (t .ready none) (long ∙ ap length (v .0)) (v .2 ∙ at-line at .line .inv .waiting) (v .3 .ten) (goes (turn at) _ (taken c x cards t ∙ unless-none _ _ none))
