@@ -24,7 +24,9 @@ one-refusal κs a x y e f p q =
 -- nq, blocks, ratios, named, ratio, work, ordinates, records
 pub one-settlement : Once settle.ps settle.r settle-says.Post
     (λ κs x y e f.
-    (x ≡ y) × (now (e .1 .1 .1 .1 .1 .0) ≡ now (f .1 .1 .1 .1 .1 .0)) × (now (e .1 .1 .1 .1 .1 .1 .0) ≡ now (f .1 .1 .1 .1 .1 .1 .0)) × (now (e .1 .1 .1 .1 .1 .1 .1 .0) ≡ now (f .1 .1 .1 .1 .1 .1 .1 .0)))
+    let d = e .1 .1 .1 .1 .1 in
+    let g = f .1 .1 .1 .1 .1 in
+    (x ≡ y) × (now (d .0) ≡ now (g .0)) × (now (d .1 .0) ≡ now (g .1 .0)) × (now (d .1 .1 .0) ≡ now (g .1 .1 .0)))
 one-settlement κs a x y e f p q =
     let same = p ∙ sym q in
     (answer-told x y (ap (λ (o : Outcome). o .answer) same), ap (λ (o : Outcome). o .work) same, ap (λ (o : Outcome). o .ordinates) same, ap (λ (o : Outcome). o .records) same)
