@@ -6,10 +6,11 @@ use Rattle.meaning.specs.Numbers.{unsigned, beforePoint, behindPoint, al
 use Rattle.meaning.specs.Records.{begins, says, identify, valueFields, anyField, valuesFrom, anyBlank, wordIn, badName}
 use Rattle.meaning.specs.Water.{rainOf, cutOf, weighed}
 use Rattle.meaning.specs.Blocks.{tooMany, holds, kindOf, takes, stormRain, rain, patternless, loss, excess, made, broken}
-use Rattle.meaning.specs.Results.{recordOf}
+use Rattle.meaning.specs.Results.{oldRecordOf, recordOf}
 use Rattle.meaning.specs.Run.{headOf, timeRefusal, timeOf, ratioRefusal, withRatios, nameRefusal, itemRefusal, withItem, readLine, shapeRefusal, flowRefusal, closingRefusal, withResult, walk, workedUnder, namedFlow, namedRatio, noRoom, outcome}
 use Rattle.meaning.specs.Listing.{whole, twoPlaces, listed, refusedLine, ratioLine, endLine, listing}
+use Rattle.meaning.specs.Moving.{recordsIn, anyFilled, anyOther, toNew, toOld}
 
 unfoldable pub computing : Unit {0}
-unfolding if_then_else_ same linesOf allPlain foreign allBlank trimEnd skipBlanks strip fixedField fixedFields markOf freeFrom freeFields fieldsOf word unsigned beforePoint behindPoint allDigits readOn decimalOf numberOf inUnits begins says identify valueFields anyField valuesFrom anyBlank wordIn badName rainOf cutOf weighed tooMany holds kindOf takes stormRain rain patternless loss excess made broken recordOf headOf timeRefusal timeOf ratioRefusal withRatios nameRefusal itemRefusal withItem readLine shapeRefusal flowRefusal closingRefusal withResult walk workedUnder namedFlow namedRatio noRoom outcome whole twoPlaces listed refusedLine ratioLine endLine listing
+unfolding if_then_else_ same linesOf allPlain foreign allBlank trimEnd skipBlanks strip fixedField fixedFields markOf freeFrom freeFields fieldsOf word unsigned beforePoint behindPoint allDigits readOn decimalOf numberOf inUnits begins says identify valueFields anyField valuesFrom anyBlank wordIn badName rainOf cutOf weighed tooMany holds kindOf takes stormRain rain patternless loss excess made broken oldRecordOf recordOf headOf timeRefusal timeOf ratioRefusal withRatios nameRefusal itemRefusal withItem readLine shapeRefusal flowRefusal closingRefusal withResult walk workedUnder namedFlow namedRatio noRoom outcome whole twoPlaces listed refusedLine ratioLine endLine listing recordsIn anyFilled anyOther toNew toOld
 computing = tt

@@ -91,16 +91,16 @@ ratioRefusals =
 -- What comes back.
 abbrev ratioAnswersTable : List Row
 ratioAnswersTable =
-    -- the answer counts ratios, 1 without JR; 17 counts 32 bytes a block and ratio, and a named ratio above the count
-    row (answerIn (outcome (rated []) 1 1 (lent 32) .answer)) (4 ∷ 1 ∷ 1 ∷ []) ∷
-    row (answerIn (outcome (rated (bytes "JR PREC,1,2,.01\n")) 0 3 (lent 96) .answer)) (4 ∷ 1 ∷ 3 ∷ []) ∷
-    row (answerIn (outcome (rated (bytes "JR PREC,1,2,.01\n")) 0 3 (lent 95) .answer)) (17 ∷ 0 ∷ []) ∷
-    row (answerIn (outcome (rated (bytes "JR PREC,1,2,.01\n")) 0 4 (lent 96) .answer)) (17 ∷ 0 ∷ []) ∷
+    -- the answer counts ratios, 1 without JR; 17 counts 40 bytes a block and ratio, and a named ratio above the count
+    row (answerIn (outcome (rated []) 1 1 (lent 40) .answer)) (4 ∷ 1 ∷ 1 ∷ []) ∷
+    row (answerIn (outcome (rated (bytes "JR PREC,1,2,.01\n")) 0 3 (lent 120) .answer)) (4 ∷ 1 ∷ 3 ∷ []) ∷
+    row (answerIn (outcome (rated (bytes "JR PREC,1,2,.01\n")) 0 3 (lent 119) .answer)) (17 ∷ 0 ∷ []) ∷
+    row (answerIn (outcome (rated (bytes "JR PREC,1,2,.01\n")) 0 4 (lent 120) .answer)) (17 ∷ 0 ∷ []) ∷
     -- the ordinates of the named ratio, 0 the last
-    row (outcome (rated (bytes "JR PREC,1,2,.01\n")) 1 2 (lent 96) .ordinates) (6_000 ∷ 12_000 ∷ 12_000 ∷ 0 ∷ []) ∷
-    row (outcome (rated (bytes "JR PREC,.01,1\n")) 0 0 (lent 96) .ordinates) (0 ∷ 6_000 ∷ 6_000 ∷ 0 ∷ []) ∷
+    row (outcome (rated (bytes "JR PREC,1,2,.01\n")) 1 2 (lent 120) .ordinates) (6_000 ∷ 12_000 ∷ 12_000 ∷ 0 ∷ []) ∷
+    row (outcome (rated (bytes "JR PREC,.01,1\n")) 0 0 (lent 120) .ordinates) (0 ∷ 6_000 ∷ 6_000 ∷ 0 ∷ []) ∷
     -- and so many bytes of records, zeros behind them
-    row (length (outcome (rated (bytes "JR PREC,.01,1\n")) 0 0 (lent 96) .records) ∷ []) (96 ∷ []) ∷
+    row (length (outcome (rated (bytes "JR PREC,.01,1\n")) 0 0 (lent 120) .records) ∷ []) (120 ∷ []) ∷
     []
 
 pub ratioAnswers : Agree ratioAnswersTable
