@@ -1,0 +1,2 @@
+-- What the mover answers, and the laws of moving.
+pub mod Answers
