@@ -1,0 +1,20 @@
+-- The record says the ratio in force and its place, and the ordinates are those of the block named.
+use Prim.Native.Nat.{ℕ}
+use mathlib.Core.Path.{ap, _∙_}
+use mathlib.Core.List.{List}
+use borrow.Author.Needs.{needs}
+use Rattle.blocks.specs.Meant.{nameIs}
+use Rattle.writing.specs.WrittenResult.{recordPut, told-as}
+use Rattle.writing.proofs.write_result.Statement.{statement}
+use Rattle.writing.proofs.write_result.Tie as tie
+
+returns : tie.Need-returns
+returns c =
+    let written = c .before .before .before .before .before .before .before in
+    let label = written .before .label-of .ensures in
+    let x = written .before .before .before .before .before .before .args in
+    let record′ : List ℕ → List ℕ = λ (bytes : List ℕ). recordPut (x .k) bytes (x .records .now) in
+    (c .before .before .copy-named .ensures, written .write-record .ensures ∙ ap record′ (told-as (nameIs (x .name)) (x .closed) (label .0) (label .1)))
+
+pub write-result-spec : {M : Type 1} → statement M
+write-result-spec = tie.close (tie.spec (λ c κs. search needs) (λ c κs. search needs) (λ c κs. search needs) (λ c. search needs) (λ c. search needs) returns)
