@@ -26,33 +26,35 @@ use Rattle.closing.specs.ClosedBlock.{Keeps, Closes}
 use Rattle.closing.specs.ToldResult.{resultOf, told-record, told-flow}
 use Rattle.closing.specs.NamedOrdinates.{named-last, ordinatesFor, ordinates-given, none-named, not-yet-closed, copied-zeros, ordinates-more}
 
--- WHAT IS CARRIED. n ordinates and m bytes of records are lent; without room for the records so far nothing is known of these.
-pub record Carried (named nq n m : ℕ) (rs : List Result) (ordinates records : List ℕ) : Type 0 where
+-- WHAT IS CARRIED under a time control whose ratio stands at a place, counted from 0. n ordinates and m bytes of records are lent; without room for the records so far
+-- nothing is known of these.
+pub record Carried (named place : ℕ) (τ : Time) (n m : ℕ) (rs : List Result) (ordinates records : List ℕ) : Type 0 where
   pub names : Each Named rs
   pub n-long : length ordinates ≡ n
   pub m-long : length records ≡ m
-  pub flow : ordinates ≡ ordinatesFor named nq n rs
-  pub told : recordSize * length rs ≤ m → records ≡ recordsIn m rs
+  pub flow : ordinates ≡ ordinatesFor named (τ .ordinates) n rs
+  pub told : recordSize * length rs ≤ m → records ≡ recordsIn (τ .ratio) (place + 1) m rs
 
-pub carried-none : (named nq n m : ℕ) → Carried named nq n m [] (replicate n 0) (replicate m 0)
-carried-none named nq n m =
+pub carried-none : (named place : ℕ) (τ : Time) (n m : ℕ) → Carried named place τ n m [] (replicate n 0) (replicate m 0)
+carried-none named place τ n m =
     record {
       names = tt;
       n-long = length-replicate {A = ℕ} n 0;
       m-long = length-replicate {A = ℕ} m 0;
-      flow = sym (⊎-elim (none-named named nq n []) (λ some. not-yet-closed named nq n [] (omega arith)) (below-or-not named 1));
-      told = λ h. sym (no-records m);
+      flow = sym (⊎-elim (none-named named (τ .ordinates) n []) (λ some. not-yet-closed named (τ .ordinates) n [] (omega arith)) (below-or-not named 1));
+      told = λ h. sym (no-records (τ .ratio) (place + 1) m);
     }
 
 -- by a block that is closed and not refused, once its result is written
-module _ {τ : Time} {b : Block} {s : Stack} {named : ℕ} {n m : ℕ} (rs : List Result) {c : Closed} {w w′ ordinates ordinates′ records records′ : List ℕ} where
+module _ {τ : Time} {b : Block} {s : Stack} {named place : ℕ} {n m : ℕ} (rs : List Result) {c : Closed} {w w′ ordinates ordinates′ records records′ : List ℕ} where
   pub carried-more : Closes τ b s w c w′ → c .refusal ≡ 0 → length (b .name) ≤ 6
       → ordinates′ ≡ copiedNamed named (length rs) (τ .ordinates) (part (mostOrdinates * (c .held .depth - 1)) (τ .ordinates) w′) ordinates
-      → records′ ≡ recordPut (length rs) (recordTold (b .name) c) records
-      → length ordinates′ ≡ length ordinates → length records′ ≡ length records → Carried named (τ .ordinates) n m rs ordinates records
-      → Carried named (τ .ordinates) n m (rs ++ (resultOf τ b s w ∷ [])) ordinates′ records′
+      → records′ ≡ recordPut (length rs) (recordTold (b .name) (τ .ratio) (place + 1) c) records
+      → length ordinates′ ≡ length ordinates → length records′ ≡ length records → Carried named place τ n m rs ordinates records
+      → Carried named place τ n m (rs ++ (resultOf τ b s w ∷ [])) ordinates′ records′
   carried-more closes none short eo er lo lr so-far =
       let next = resultOf τ b s w in
+      let ratio = τ .ratio in
       let long : length (rs ++ (next ∷ [])) ≡ length rs + 1 = length-append rs (next ∷ []) in
       record {
         names = each-more Named rs next (so-far .names) short;
@@ -62,21 +64,22 @@ module _ {τ : Time} {b : Block} {s : Stack} {named : ℕ} {n m : ℕ} (rs : Lis
             eo ∙ ap (λ (q : List ℕ). copiedNamed named (length rs) (τ .ordinates) q ordinates) (told-flow closes none)
             ∙ ordinates-more named (τ .ordinates) n rs next (so-far .n-long) (so-far .flow);
         told = λ room.
-            er ∙ ap (λ (q : List ℕ). recordPut (length rs) q records) (told-record closes none)
+            er ∙ ap (λ (q : List ℕ). recordPut (length rs) q records) (told-record closes none ratio (place + 1))
             ∙ sym (taken _ (le-leb (recordSize * length rs + recordSize) (length records) (omega (arith, so-far .m-long))) refl)
-            ∙ ap (λ (z : List ℕ). put (recordSize * length rs) recordSize z (recordOf next)) (so-far .told (omega arith))
-            ∙ record-more m rs next (so-far .names) short;
+            ∙ ap (λ (z : List ℕ). put (recordSize * length rs) recordSize z (recordOf ratio (place + 1) next)) (so-far .told (omega arith))
+            ∙ record-more ratio (place + 1) m rs next (so-far .names) short;
       }
 
 -- at an accepted end: the named block's ordinates are there, or are those of the last block
-module _ {named nq n m : ℕ} {rs : List Result} {ordinates records : List ℕ} where
-  pub carried-named : Carried named nq n m rs ordinates records → 1 ≤ named → named ≤ length rs → nq ≤ n → ordinates ≡ namedFlow named rs ++ replicate (n - nq) 0
-  carried-named so-far some few room = so-far .flow ∙ ordinates-given named nq n rs some few room
+module _ {named place : ℕ} {τ : Time} {n m : ℕ} {rs : List Result} {ordinates records : List ℕ} where
+  pub carried-named : Carried named place τ n m rs ordinates records → 1 ≤ named → named ≤ length rs → τ .ordinates ≤ n
+      → ordinates ≡ namedFlow named rs ++ replicate (n - τ .ordinates) 0
+  carried-named so-far some few room = so-far .flow ∙ ordinates-given named (τ .ordinates) n rs some few room
 
-pub carried-last : {nq n m : ℕ} (rs : List Result) (r : Result) {ordinates records : List ℕ} → Carried 0 nq n m (rs ++ (r ∷ [])) ordinates records → nq ≤ n
-    → copiedFirst nq (r .held .flow) ordinates ≡ namedFlow 0 (rs ++ (r ∷ [])) ++ replicate (n - nq) 0
-carried-last {nq} {n} rs r so-far room =
-    copied-zeros nq n (r .held .flow) room (so-far .n-long) (so-far .flow ∙ none-named 0 nq n (rs ++ (r ∷ [])) (omega arith)) ∙ rw (named-last rs r)
+pub carried-last : {place : ℕ} (τ : Time) {n m : ℕ} (rs : List Result) (r : Result) {ordinates records : List ℕ} → Carried 0 place τ n m (rs ++ (r ∷ [])) ordinates records
+    → τ .ordinates ≤ n → copiedFirst (τ .ordinates) (r .held .flow) ordinates ≡ namedFlow 0 (rs ++ (r ∷ [])) ++ replicate (n - τ .ordinates) 0
+carried-last τ {n} rs r so-far room =
+    copied-zeros (τ .ordinates) n (r .held .flow) room (so-far .n-long) (so-far .flow ∙ none-named 0 (τ .ordinates) n (rs ++ (r ∷ [])) (omega arith)) ∙ rw (named-last rs r)
 
 -- WHAT IS HELD after k blocks: each added at most one card's area
 pub record HeldAfter (k : ℕ) (s : Stack) (nq : ℕ) (w : List ℕ) : Type 0 where

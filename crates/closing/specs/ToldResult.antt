@@ -32,8 +32,8 @@ module _ {τ : Time} {b : Block} {s : Stack} {w : List ℕ} {c : Closed} {w′ :
     told : c ≡ closedBlock (kindOf b) b s (resultOf τ b s w .held)
     told = answer-none (kindOf b) b s (resultOf τ b s w .held) refusal (closes .answer) none
 
-    pub told-record : recordTold (b .name) c ≡ recordOf (resultOf τ b s w)
-    told-record = ap (recordTold (b .name)) told ∙ sym (record-of (resultOf τ b s w))
+    pub told-record : (ratio place : ℕ) → recordTold (b .name) ratio place c ≡ recordOf ratio place (resultOf τ b s w)
+    told-record ratio place = ap (recordTold (b .name) ratio place) told ∙ sym (record-of ratio place (resultOf τ b s w))
 
     pub told-flow : part (mostOrdinates * (c .held .depth - 1)) (τ .ordinates) w′ ≡ resultOf τ b s w .held .flow
     told-flow = view-last (c .held) (τ .ordinates) w′ (closes .keeps none .held) .flow

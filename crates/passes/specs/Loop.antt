@@ -7,7 +7,7 @@
 --     turn-done, turn-stopped, turn-still-stopped    loop-more by what the walk came to
 --     loop-ends         what comes back where it is accepted
 use Prim.Native.Nat.{ℕ, zero, suc, _+_, _-_, _*_, _≤_, _<_}
-use mathlib.Core.Path.{_≡_, refl, sym, ap, _∙_}
+use mathlib.Core.Path.{_≡_, refl, sym, ap, subst, _∙_}
 use mathlib.Core.Bool.{Bool, true, false}
 use mathlib.Core.Logic.{_⊎_, inl, inr, ⊎-elim}
 use mathlib.Core.List.{List, [], _∷_, _++_, append-assoc, append-nil}
@@ -17,7 +17,7 @@ use lib.ListN.{length, take, drop, getD, replicate, length-append}
 use lib.Seq.{take-at, drop-at, getD-append-seam}
 use borrow.Author.Tests.{eq-eqb, ne-eqb}
 use Rattle.meaning.specs.Words.{if_then_else_}
-use Rattle.meaning.specs.Blocks.{Time}
+use Rattle.meaning.specs.Blocks.{Time, ratioAt}
 use Rattle.meaning.specs.Results.{Result, recordSize, recordsOf}
 use Rattle.meaning.specs.Run.{Only, Worked, Stopped, Done, workedUnder, worked, Lent, Accepted, namedFlow, namedRatio, blockCount, allRecords, recordBytes, accepted}
 use Rattle.sequences.specs.Choices.{below-or-not}
@@ -26,11 +26,15 @@ use Rattle.passes.specs.Together.{together-apart}
 use Rattle.passes.specs.Walks.{count-some}
 use Rattle.passes.specs.Alike.{Alike, walks-alike}
 
+-- The records of the ratio at place k.
+abbrev pub recordsAt : ℕ → Time → List Result → List ℕ
+recordsAt k τ rs = recordsOf (ratioAt k τ) (k + 1) rs
+
 -- A walk that came to its end: its results, their records in m bytes and the named hydrograph in n ordinates.
 pub record WalkIs (deck : List ℕ) (k named n m : ℕ) (τ : Time) (rs : List Result) (ordinates records : List ℕ) : Type 0 where
   pub done : workedUnder (Only k) deck ≡ Done τ (rs ∷ [])
-  pub long : length (recordsOf rs) ≡ recordSize * length rs
-  pub told : recordSize * length rs ≤ m → records ≡ recordsOf rs ++ replicate (m - recordSize * length rs) 0
+  pub long : length (recordsAt k τ rs) ≡ recordSize * length rs
+  pub told : recordSize * length rs ≤ m → records ≡ recordsAt k τ rs ++ replicate (m - recordSize * length rs) 0
   pub flow : named ≤ length rs → τ .ordinates ≤ n → ordinates ≡ namedFlow named rs ++ replicate (n - τ .ordinates) 0
 
 -- What is kept after k walks that all came to their end.
@@ -38,8 +42,8 @@ pub record Holds (deck : List ℕ) (named ratio n m k : ℕ) (τ : Time) (rss : 
   pub some : 0 < k
   pub ratios : length rss ≡ k
   pub first : workedUnder (Only 0) deck ≡ Done τ (getD rss 0 [] ∷ [])
-  pub long : length (allRecords rss) ≡ recordBytes (blockCount rss) k
-  pub told : recordBytes (blockCount rss) k ≤ m → records ≡ allRecords rss ++ replicate (m - recordBytes (blockCount rss) k) 0
+  pub long : length (allRecords τ 0 rss) ≡ recordBytes (blockCount rss) k
+  pub told : recordBytes (blockCount rss) k ≤ m → records ≡ allRecords τ 0 rss ++ replicate (m - recordBytes (blockCount rss) k) 0
   pub flow : named ≤ blockCount rss → τ .ordinates ≤ n → ratio ≤ k → ordinates ≡ namedFlow named (namedRatio ratio rss) ++ replicate (n - τ .ordinates) 0
 
 abbrev pub HoldsOf : List ℕ → (named ratio n m k : ℕ) → Worked → (ordinates records : List ℕ) → Type 0
@@ -60,9 +64,13 @@ pub record OrdinatesLent (ratio n k n′ : ℕ) (before lent after : List ℕ) :
   pub written : (ratio ≡ 0) ⊎ (ratio ≡ k + 1) → (n′ ≡ n) × (after ≡ lent)
   pub left : 0 < ratio → ratio ≤ k → after ≡ before
 
-all-append : (rss : List (List Result)) (rs : List Result) → allRecords (rss ++ (rs ∷ [])) ≡ allRecords rss ++ recordsOf rs
-all-append [] rs = append-nil (recordsOf rs)
-all-append (qs ∷ rss) rs = rw (all-append rss rs) (sym (append-assoc (recordsOf qs) (allRecords rss) (recordsOf rs)))
+all-append : (τ : Time) (k : ℕ) (rss : List (List Result)) (rs : List Result) → allRecords τ k (rss ++ (rs ∷ [])) ≡ allRecords τ k rss ++ recordsAt (k + length rss) τ rs
+all-append τ k [] rs =
+    let here : k + 0 ≡ k = omega arith in
+    rw here (append-nil (recordsAt k τ rs))
+all-append τ k (qs ∷ rss) rs =
+    let on : k + 1 + length rss ≡ k + suc (length rss) = omega arith in
+    rw (all-append τ (k + 1) rss rs, on) (sym (append-assoc (recordsAt k τ qs) (allRecords τ (k + 1) rss) (recordsAt (k + suc (length rss)) τ rs)))
 
 at-append : {A : Type 0} (xs : List A) (y d : A) (i : ℕ) → i < length xs → getD (xs ++ (y ∷ [])) i d ≡ getD xs i d
 at-append [] y d i h = absurd (omega arith)
@@ -120,8 +128,8 @@ module _ (deck : List ℕ) (named ratio n m : ℕ) where
         some = omega arith;
         ratios = refl;
         first = w .done;
-        long = rw (one, append-nil (recordsOf rs)) (w .long);
-        told = rw (one, append-nil (recordsOf rs)) (w .told);
+        long = rw (one, append-nil (recordsAt 0 τ rs)) (w .long);
+        told = rw (one, append-nil (recordsAt 0 τ rs)) (w .told);
         flow = λ (few : named ≤ length rs) (room : τ .ordinates ≤ n) (up : ratio ≤ 1).
             named-put 0 n′ (τ .ordinates) [] rs before lent after refl room put (w .flow few) (λ (some : 0 < ratio) (none : ratio ≤ 0). absurd (omega arith)) up;
       }
@@ -132,12 +140,20 @@ module _ (deck : List ℕ) (named ratio n m : ℕ) where
     b = blockCount rss
 
     pub lent-zeros : recordsFrom b k ≤ m → drop (recordsFrom b k) records ≡ replicate (m - recordsFrom b k) 0
-    lent-zeros fits = rw (h .told fits) (drop-at (allRecords rss) (replicate (m - recordsFrom b k) 0) (recordsFrom b k) (h .long))
+    lent-zeros fits = rw (h .told fits) (drop-at (allRecords τ 0 rss) (replicate (m - recordsFrom b k) 0) (recordsFrom b k) (h .long))
 
     module _ (n′ : ℕ) (σ : Time) (rs : List Result) (lent after lent-records records′ : List ℕ) (w : WalkIs deck k named n′ (m - recordsFrom b k) σ rs lent lent-records)
         (kept : recordsFrom b k ≤ m → records′ ≡ take (recordsFrom b k) records ++ lent-records) (put : OrdinatesLent ratio n k n′ ordinates lent after) where
       alike : Alike deck τ σ (getD rss 0 []) rs
       alike = walks-alike deck 0 k τ σ (getD rss 0 []) rs (h .first) (w .done)
+
+      walk : WalkIs deck k named n′ (m - recordsFrom b k) τ rs lent lent-records
+      walk = subst (λ (ρ : Time). WalkIs deck k named n′ (m - recordsFrom b k) ρ rs lent lent-records) (sym (alike .time)) w
+
+      more : allRecords τ 0 (rss ++ (rs ∷ [])) ≡ allRecords τ 0 rss ++ recordsAt k τ rs
+      more =
+          let last : 0 + length rss ≡ k = omega (arith, h .ratios) in
+          rw last at (all-append τ 0 rss rs)
 
       begins : getD (rss ++ (rs ∷ [])) 0 [] ≡ getD rss 0 []
       begins = at-append rss rs [] 0 (omega (arith, h .some, h .ratios))
@@ -145,15 +161,15 @@ module _ (deck : List ℕ) (named ratio n m : ℕ) where
       one-more : b * (k + 1) ≡ b * k + b
       one-more = rw (mul-add b k 1, mul-one b)
 
-      records-more : recordBytes b (k + 1) ≤ m → records′ ≡ allRecords (rss ++ (rs ∷ [])) ++ replicate (m - recordBytes b (k + 1)) 0
+      records-more : recordBytes b (k + 1) ≤ m → records′ ≡ allRecords τ 0 (rss ++ (rs ∷ [])) ++ replicate (m - recordBytes b (k + 1)) 0
       records-more room =
           let same = alike .blocks in
           let f : recordsFrom b k ≤ m = omega (arith, one-more) in
           let g : recordSize * length rs ≤ m - recordsFrom b k = omega (arith, one-more) in
           let z : m - recordsFrom b k - recordSize * length rs ≡ m - recordBytes b (k + 1) = omega (arith, one-more) in
           kept f
-          ∙ rw (h .told f, take-at (allRecords rss) (replicate (m - recordsFrom b k) 0) (recordsFrom b k) (h .long), w .told g, z, all-append rss rs)
-          (sym (append-assoc (allRecords rss) (recordsOf rs) (replicate (m - recordBytes b (k + 1)) 0)))
+          ∙ rw (h .told f, take-at (allRecords τ 0 rss) (replicate (m - recordsFrom b k) 0) (recordsFrom b k) (h .long), walk .told g, z, more)
+          (sym (append-assoc (allRecords τ 0 rss) (recordsAt k τ rs) (replicate (m - recordBytes b (k + 1)) 0)))
 
       pub holds-more : Holds deck named ratio n m (k + 1) τ (rss ++ (rs ∷ [])) after records′
       holds-more =
@@ -162,13 +178,13 @@ module _ (deck : List ℕ) (named ratio n m : ℕ) where
             some = omega arith;
             ratios = omega (arith, length-append rss (rs ∷ []), h .ratios);
             first = rw begins (h .first);
-            long = rw (begins, all-append rss rs) (omega (arith, length-append (allRecords rss) (recordsOf rs), h .long, w .long, one-more));
+            long = rw (begins, more) (omega (arith, length-append (allRecords τ 0 rss) (recordsAt k τ rs), h .long, walk .long, one-more));
             told = rw begins records-more;
             flow =
                 rw begins
                 (λ (few : named ≤ b) (room : τ .ordinates ≤ n) (up : ratio ≤ k + 1).
                 let few′ : named ≤ length rs = omega arith in
-                named-put k n′ (τ .ordinates) rss rs ordinates lent after (h .ratios) room put (rw (sym (alike .time)) at (w .flow few′)) (λ some. h .flow few room) up);
+                named-put k n′ (τ .ordinates) rss rs ordinates lent after (h .ratios) room put (walk .flow few′) (λ some. h .flow few room) up);
           }
 
   -- Nothing is asked of what was lent once a walk was refused.
