@@ -1,6 +1,6 @@
 -- Two outcomes that meet the contract of the walk, as its `ensures` line has it, say the same of the deck, and, where there is room for the results, have left the same
 -- ordinates and records. The work words and the open block's are scratch.
-use Prim.Native.Nat.{ℕ, _-_, _*_, _≤_}
+use Prim.Native.Nat.{ℕ, _+_, _-_, _*_, _≤_}
 use mathlib.Core.Path.{_≡_, sym, ap, _∙_}
 use mathlib.Core.Bool.{Bool, true, false}
 use mathlib.Core.List.{List, [], _++_}
@@ -45,8 +45,11 @@ module _ (deck : List ℕ) (named place n m : ℕ) (listed : List ℕ) (nq block
     unfolding resultsOf
     results-are = rw (d .done)
 
-    records-are : records ≡ recordsIn m results
-    records-are = d .told (rw (d .blocks-are) lines) ∙ ap (recordsIn m) results-are
+    -- the ratio is the one at its place of those listed
+    records-are : records ≡ recordsIn (getD listed place 100) (place + 1) m results
+    records-are =
+        d .told (rw (d .blocks-are) lines) ∙ ap (λ (ratios : List ℕ). recordsIn (getD ratios place 100) (place + 1) m (d .results)) (d .listed-are)
+        ∙ ap (recordsIn (getD listed place 100) (place + 1) m) results-are
 
     flow-is : ordinates ≡ namedFlow named results ++ replicate (n - nq) 0
     flow-is = d .flow (rw (d .blocks-are) known) flows ∙ ap (λ (rs : List Result). namedFlow named rs ++ replicate (n - nq) 0) results-are
@@ -62,7 +65,8 @@ results-once κs a x y e f p q s t known flows room =
     let same = rw (s, t) at (said-once κs a x y e f p q .0) in
     let nq : y .worked .nq ≡ x .worked .nq = cc in
     let blocks : y .worked .blocks ≡ x .worked .blocks = cc in
-    let g′ = rw (nq, blocks) at g in (
+    let listed : ratiosIs (y .ratios) ≡ ratiosIs (x .ratios) = cc in
+    let g′ = rw (nq, blocks, listed) at g in (
       flow-is _ _ _ _ _ _ _ _ known flows room _ _ d ∙ sym (flow-is _ _ _ _ _ _ _ _ known flows room _ _ g′),
       records-are _ _ _ _ _ _ _ _ known flows room _ _ d ∙ sym (records-are _ _ _ _ _ _ _ _ known flows room _ _ g′),
     )

@@ -8,7 +8,7 @@ use mathlib.Core.List.{List, [], _∷_, _++_}
 use lib.ListN.{length, drop, getD, replicate}
 use Rattle.sequences.specs.Parts.{part}
 use Rattle.meaning.specs.Lines.{linesOf}
-use Rattle.meaning.specs.Blocks.{Time, orWhole, Block}
+use Rattle.meaning.specs.Blocks.{Time, orWhole, ratioAt, Block}
 use Rattle.meaning.specs.Results.{Result, recordSize}
 use Rattle.meaning.specs.Run as run
 use Rattle.meaning.specs.Run.{Stopped, Done, Run, Standing, Only, walk, workedUnder, namedFlow, mostBlocks}
@@ -60,13 +60,14 @@ standsAt place s rs work = standing (s .reading .phase) (s .blocks) (runOf place
 -- n ordinates and m bytes of records are lent; the walk is that under the ratio at a place
 pub record Going (deck : List ℕ) (named place n m : ℕ) (s : State) (work ordinates records cards : List ℕ) : Type 0 where
   pub results : List Result
+  pub few-ratios : place ≤ 9
   pub up : s .at ≤ length deck
   pub counted : s .line ≤ s .at
   pub ready : Ready (s .reading) cards
   pub within : ReadingWithin (readingIs (s .reading) cards)
   pub held : HeldAfter (length results) (s .held) (s .reading .time .ordinates) work
   pub count : CountBy (s .reading .phase) (s .blocks) (length results) (s .held .depth)
-  pub carried : Carried named (s .reading .time .ordinates) n m results ordinates records
+  pub carried : Carried named place (timeAt place (timeIs (s .reading .time))) n m results ordinates records
   pub ratios : RatiosBy (s .reading .phase) (linesOf (drop (s .at) deck)) (readingIs (s .reading) cards) (listedIn s) (ratioCount deck)
   pub walked : walk (Only place) (linesOf (drop (s .at) deck)) (readingIs (s .reading) cards) (standsAt place s results work) (s .line + 1) ≡ workedUnder (Only place) deck
 
@@ -80,7 +81,7 @@ pub record DoneIs (deck : List ℕ) (named place n m : ℕ) (listed : List ℕ) 
   pub blocks-are : length results ≡ blocks
   pub few : blocks ≤ mostBlocks
   pub names : Each Named results
-  pub told : recordSize * length results ≤ m → records ≡ recordsIn m results
+  pub told : recordSize * length results ≤ m → records ≡ recordsIn (ratioAt place time) (place + 1) m results
   pub flow : named ≤ length results → nq ≤ n → ordinates ≡ namedFlow named results ++ replicate (n - nq) 0
 
 abbrev pub WorkedBy : Bool → List ℕ → (named place n m : ℕ) → (listed : List ℕ) → (number line nq blocks : ℕ) → (ordinates records : List ℕ) → Type 0
@@ -110,40 +111,42 @@ abbrev pub readingUnder : ℕ → Reading → Reading
 readingUnder place r =
     record { phase = r .phase; free = r .free; time = timeUnder (getD (ratiosIs (r .time .ratios)) place 100) (r .time); name = r .name }
 
--- A block finished: closed, and, if it was not refused, its result written.
-pub record Finishes (τ : Time) (b : Block) (s : Stack) (named k : ℕ) (x : Finished) (work work′ ordinates ordinates′ records records′ : List ℕ) : Type 0 where
+-- A block finished: closed, and, if it was not refused, its result written under the ratio at a place, counted from 0.
+pub record Finishes (τ : Time) (b : Block) (s : Stack) (named place k : ℕ) (x : Finished) (work work′ ordinates ordinates′ records records′ : List ℕ) : Type 0 where
   pub closed : Closed
   pub closes : Closes τ b s work closed work′
   pub number : x .refusal ≡ closed .refusal
   pub held : x .held ≡ closed .held
   pub copied : x .refusal ≡ 0 → ordinates′ ≡ copiedNamed named k (τ .ordinates) (part (mostOrdinates * (closed .held .depth - 1)) (τ .ordinates) work′) ordinates
-  pub written : x .refusal ≡ 0 → records′ ≡ recordPut k (recordTold (b .name) closed) records
+  pub written : x .refusal ≡ 0 → records′ ≡ recordPut k (recordTold (b .name) (τ .ratio) (place + 1) closed) records
 
 -- where a block closes, by the phase: the open block is finished; else nothing was open
-abbrev pub ClosedBy : Phase → Reading → Stack → (blocks named : ℕ) → Finished → (work work′ ordinates ordinates′ records records′ cards : List ℕ) → Type 0
-ClosedBy phase.BeforeTime r held blocks named x work work′ ordinates ordinates′ records records′ cards =
+abbrev pub ClosedBy : Phase → Reading → Stack → (blocks named place : ℕ) → Finished → (work work′ ordinates ordinates′ records records′ cards : List ℕ) → Type 0
+ClosedBy phase.BeforeTime r held blocks named place x work work′ ordinates ordinates′ records records′ cards =
     (x .refusal ≡ 0) × (x .held ≡ held) × (work′ ≡ work) × (ordinates′ ≡ ordinates) × (records′ ≡ records)
-ClosedBy phase.BeforeBlocks r held blocks named x work work′ ordinates ordinates′ records records′ cards =
+ClosedBy phase.BeforeBlocks r held blocks named place x work work′ ordinates ordinates′ records records′ cards =
     (x .refusal ≡ 0) × (x .held ≡ held) × (work′ ≡ work) × (ordinates′ ≡ ordinates) × (records′ ≡ records)
-ClosedBy phase.InBlock r held blocks named x work work′ ordinates ordinates′ records records′ cards =
-    Finishes (timeIs (r .time)) (blockIs r cards) held named (blocks - 1) x work work′ ordinates ordinates′ records records′
+ClosedBy phase.InBlock r held blocks named place x work work′ ordinates ordinates′ records records′ cards =
+    Finishes (timeIs (r .time)) (blockIs r cards) held named place (blocks - 1) x work work′ ordinates ordinates′ records records′
 
--- what is asked of an open block before which k were closed
-pub record MayFinish (r : Reading) (s : Stack) (k : ℕ) (work cards : List ℕ) : Type 0 where
+-- what is asked of an open block before which k were closed, and of the place of the ratio
+pub record MayFinish (r : Reading) (s : Stack) (k ratio : ℕ) (work cards : List ℕ) : Type 0 where
   pub ready : Ready r cards
   pub place : r .phase ≡ phase.InBlock
   pub within : ReadingWithin (readingIs r cards)
   pub held : HeldAfter k s (r .time .ordinates) work
   pub few : k ≤ 199
+  pub few-ratios : ratio ≤ 9
 
 -- by another count of the blocks before, if it is the same
 pub held-as : {s : Stack} {nq : ℕ} {w : List ℕ} (k before : ℕ) → k ≡ before → HeldAfter before s nq w → HeldAfter k s nq w
 held-as k before e h = rw e h
 
 -- and where one may be open: so many were closed before
-pub record MayClose (r : Reading) (s : Stack) (blocks : ℕ) (work cards : List ℕ) : Type 0 where
+pub record MayClose (r : Reading) (s : Stack) (blocks ratio : ℕ) (work cards : List ℕ) : Type 0 where
   pub ready : Ready r cards
   pub within : ReadingWithin (readingIs r cards)
   pub before : ℕ
   pub held : HeldAfter before s (r .time .ordinates) work
   pub count : CountBy (r .phase) blocks before (s .depth)
+  pub few-ratios : ratio ≤ 9

@@ -22,7 +22,7 @@ use Rattle.walking.specs.Ways.{kk-counted, kk-refused, kk-too-many, kk-g
 
 module _ (deck : List ℕ) (named place n m : ℕ) (s : State) (work ordinates records cards : List ℕ) (g : Going deck named place n m s work ordinates records cards)
     (r : Reading) (line at : ℕ) (cards′ : List ℕ) (ready : Ready r cards′) (x : Finished) (work′ ordinates′ records′ : List ℕ)
-    (is : ClosedBy (r .phase) (readingUnder place r) (s .held) (s .blocks) named x work work′ ordinates ordinates′ records records′ cards′)
+    (is : ClosedBy (r .phase) (readingUnder place r) (s .held) (s .blocks) named place x work work′ ordinates ordinates′ records records′ cards′)
     (lw : length work′ ≡ length work) (lo : length ordinates′ ≡ length ordinates) (lr : length records′ ≡ length records) (t : Turn) where
   pub kk-turn : (name : Name)
       → nextEvent (linesOf (drop (s .at) deck)) (readingIs (s .reading) cards) (s .line + 1)

@@ -63,15 +63,18 @@ none-closed y nq w held e none some =
     let same : length (view y nq w) ≡ length held = ap length e in
     omega arith
 
-pub last-by : (p : Phase) (τ : Time) (form : Form) (b : Block) (was : Run) (blocks depth nq n m : ℕ) (y : Stack) (w ordinates records : List ℕ)
-    → CountBy p blocks (length (was .results)) depth → length (was .held) ≡ depth → view y nq w ≡ closedRun (readingBy p τ form b) was .held → 1 ≤ y .depth → nq ≤ n
-    → Carried 0 nq n m (closedRun (readingBy p τ form b) was .results) ordinates records
-    → copiedFirst nq (part (mostOrdinates * (y .depth - 1)) nq w) ordinates ≡ namedFlow 0 (closedRun (readingBy p τ form b) was .results) ++ replicate (n - nq) 0
+pub last-by : (p : Phase) (τ : Time) (form : Form) (b : Block) (was : Run) (blocks depth place n m : ℕ) (y : Stack) (w ordinates records : List ℕ)
+    → CountBy p blocks (length (was .results)) depth → length (was .held) ≡ depth → view y (was .time .ordinates) w ≡ closedRun (readingBy p τ form b) was .held → 1 ≤ y .depth
+    → was .time .ordinates ≤ n → Carried 0 place (was .time) n m (closedRun (readingBy p τ form b) was .results) ordinates records
+    → copiedFirst (was .time .ordinates) (part (mostOrdinates * (y .depth - 1)) (was .time .ordinates) w) ordinates
+    ≡ namedFlow 0 (closedRun (readingBy p τ form b) was .results) ++ replicate (n - was .time .ordinates) 0
 unfolding withResult
-last-by phase.BeforeTime τ form b was blocks depth nq n m y w ordinates records count held e some room c = absurd (none-closed y nq w (was .held) e (held ∙ count .2) some)
-last-by phase.BeforeBlocks τ form b was blocks depth nq n m y w ordinates records count held e some room c = absurd (none-closed y nq w (was .held) e (held ∙ count .2) some)
-last-by phase.InBlock τ form b was blocks depth nq n m y w ordinates records count held e some room c =
-    rw (view-last y nq w e .flow) (carried-last (was .results) (record { block = b; held = heldIn b was }) c room)
+last-by phase.BeforeTime τ form b was blocks depth place n m y w ordinates records count held e some room c =
+    absurd (none-closed y (was .time .ordinates) w (was .held) e (held ∙ count .2) some)
+last-by phase.BeforeBlocks τ form b was blocks depth place n m y w ordinates records count held e some room c =
+    absurd (none-closed y (was .time .ordinates) w (was .held) e (held ∙ count .2) some)
+last-by phase.InBlock τ form b was blocks depth place n m y w ordinates records count held e some room c =
+    rw (view-last y (was .time .ordinates) w e .flow) (carried-last (was .time) (was .results) (record { block = b; held = heldIn b was }) c room)
 
 -- the run with what is held seen in the work words
 pub run-by : (p : Phase) (τ : Time) (form : Form) (b : Block) (was : Run) (held : List Held) → held ≡ closedRun (readingBy p τ form b) was .held
@@ -117,23 +120,23 @@ ratios-by phase.BeforeBlocks phase.InBlock τ form b lines from n next line rest
 ratios-by phase.InBlock phase.InBlock τ form b lines from n next line rest listed ratios blocks results depth found timed h count count′ same = rw (same refl) h
 
 -- A KK that is refused, or is one too many, stands in a block
-module _ (r : Reading) (h : Stack) (blocks named : ℕ) (x : Finished) (work work′ ordinates ordinates′ records records′ cards : List ℕ) (results depth : ℕ) where
+module _ (r : Reading) (h : Stack) (blocks named place : ℕ) (x : Finished) (work work′ ordinates ordinates′ records records′ cards : List ℕ) (results depth : ℕ) where
   abbrev Stopping : Type 0
   Stopping = (x .refusal ≡ 0 → ⊥) ⊎ (mostBlocks ≤ blocks)
 
   none-stops : blocks ≡ 0 → x .refusal ≡ 0 → Stopping → ⊥
   none-stops none sound stops = ⊎-elim (λ some. some sound) (λ many. omega arith) stops
 
-  outside-stops : (p : Phase) → blocks ≡ 0 → CountBy p blocks results depth → ClosedBy p r h blocks named x work work′ ordinates ordinates′ records records′ cards → Stopping → ⊥
+  outside-stops : (p : Phase) → blocks ≡ 0 → CountBy p blocks results depth → ClosedBy p r h blocks named place x work work′ ordinates ordinates′ records records′ cards → Stopping → ⊥
   outside-stops phase.BeforeTime none count c stops = none-stops none (c .0) stops
   outside-stops phase.BeforeBlocks none count c stops = none-stops none (c .0) stops
   outside-stops phase.InBlock none count c stops = omega arith
 
-pub counted-in : (p p′ : Phase) (r : Reading) (h : Stack) (blocks named : ℕ) (x : Finished) (work work′ ordinates ordinates′ records records′ cards : List ℕ) (results depth : ℕ)
+pub counted-in : (p p′ : Phase) (r : Reading) (h : Stack) (blocks named place : ℕ) (x : Finished) (work work′ ordinates ordinates′ records records′ cards : List ℕ) (results depth : ℕ)
     (lines : List (List ℕ)) (from : run.Reading) (listed : List ℕ) (ratios : ℕ) → RatiosBy p lines from listed ratios → CountBy p blocks results depth → CountBy p′ blocks results depth
-    → ClosedBy p′ r h blocks named x work work′ ordinates ordinates′ records records′ cards → (x .refusal ≡ 0 → ⊥) ⊎ (mostBlocks ≤ blocks) → length (orWhole listed) ≡ ratios
-counted-in phase.BeforeTime p′ r h blocks named x work work′ ordinates ordinates′ records records′ cards results depth lines from listed ratios h′ count count′ c stops =
-    absurd (outside-stops r h blocks named x work work′ ordinates ordinates′ records records′ cards results depth p′ (count .0) count′ c stops)
-counted-in phase.BeforeBlocks p′ r h blocks named x work work′ ordinates ordinates′ records records′ cards results depth lines from listed ratios h′ count count′ c stops =
-    absurd (outside-stops r h blocks named x work work′ ordinates ordinates′ records records′ cards results depth p′ (count .0) count′ c stops)
-counted-in phase.InBlock p′ r h blocks named x work work′ ordinates ordinates′ records records′ cards results depth lines from listed ratios h′ count count′ c stops = h′
+    → ClosedBy p′ r h blocks named place x work work′ ordinates ordinates′ records records′ cards → (x .refusal ≡ 0 → ⊥) ⊎ (mostBlocks ≤ blocks) → length (orWhole listed) ≡ ratios
+counted-in phase.BeforeTime p′ r h blocks named place x work work′ ordinates ordinates′ records records′ cards results depth lines from listed ratios h′ count count′ c stops =
+    absurd (outside-stops r h blocks named place x work work′ ordinates ordinates′ records records′ cards results depth p′ (count .0) count′ c stops)
+counted-in phase.BeforeBlocks p′ r h blocks named place x work work′ ordinates ordinates′ records records′ cards results depth lines from listed ratios h′ count count′ c stops =
+    absurd (outside-stops r h blocks named place x work work′ ordinates ordinates′ records records′ cards results depth p′ (count .0) count′ c stops)
+counted-in phase.InBlock p′ r h blocks named place x work work′ ordinates ordinates′ records records′ cards results depth lines from listed ratios h′ count count′ c stops = h′

@@ -32,12 +32,18 @@ use Rattle.passes.specs.One.{timeAt}
 use Rattle.walking.specs.OneRun.{alone, standing}
 use Rattle.walking.specs.Going.{CountBy, RatiosBy, listedIn, runOf, standsAt, Going, readingUnder, MayClose}
 
--- before the first result the number of ordinates asked for does not matter
-carried-moved : (named nq nq′ n m : ℕ) (rs : List Result) (ordinates records : List ℕ) → length rs ≡ 0
-    → Carried named nq n m rs ordinates records → Carried named nq′ n m rs ordinates records
-carried-moved named nq nq′ n m [] ordinates records e c =
-    record { names = tt; n-long = c .n-long; m-long = c .m-long; flow = c .flow ∙ sym (carried-none named nq n m .flow) ∙ carried-none named nq′ n m .flow; told = c .told }
-carried-moved named nq nq′ n m (r ∷ rs) ordinates records e c = absurd (omega arith)
+-- before the first result the time control does not matter
+carried-moved : (named place : ℕ) (τ τ′ : Time) (n m : ℕ) (rs : List Result) (ordinates records : List ℕ) → length rs ≡ 0
+    → Carried named place τ n m rs ordinates records → Carried named place τ′ n m rs ordinates records
+carried-moved named place τ τ′ n m [] ordinates records e c =
+    record {
+      names = tt;
+      n-long = c .n-long;
+      m-long = c .m-long;
+      flow = c .flow ∙ sym (carried-none named place τ n m .flow) ∙ carried-none named place τ′ n m .flow;
+      told = c .told;
+    }
+carried-moved named place τ τ′ n m (r ∷ rs) ordinates records e c = absurd (omega arith)
 
 none-held : (nq nq′ : ℕ) (s : Stack) (w : List ℕ) → s .depth ≡ 0 → view s nq′ w ≡ view s nq w
 none-held nq nq′ s w e = rw e
@@ -67,7 +73,7 @@ module _ (deck : List ℕ) (named place n m : ℕ) (s : State) (work ordinates r
 pub record Moved (named place n m : ℕ) (s : State) (r : Reading) (rs : List Result) (work ordinates records : List ℕ) : Type 0 where
   pub held : HeldAfter (length rs) (s .held) (r .time .ordinates) work
   pub count : CountBy (r .phase) (s .blocks) (length rs) (s .held .depth)
-  pub carried : Carried named (r .time .ordinates) n m rs ordinates records
+  pub carried : Carried named place (timeAt place (timeIs (r .time))) n m rs ordinates records
   pub listed : s .reading .phase ≡ phase.InBlock → ratiosIs (r .time .ratios) ≡ listedIn s
   pub stays : r .phase ≡ phase.InBlock → s .reading .phase ≡ phase.InBlock
   pub same : standing (r .phase) (s .blocks) (runOf place r (s .held) rs work) ≡ standsAt place s rs work
@@ -124,7 +130,7 @@ module _ (deck : List ℕ) (named place n m : ℕ) (s : State) (work ordinates r
       record {
         held = held-moved (length (g .results)) (s .reading .time .ordinates) (r .time .ordinates) (s .held) work (zero-all .2) (ready .few-ordinates) (g .held);
         count = count-outside (r .phase) (timeIs (r .time)) (formOf (r .free)) (blockIs r cards′) (s .blocks) (length (g .results)) (s .held .depth) (end .1) zero-all;
-        carried = carried-moved named (s .reading .time .ordinates) (r .time .ordinates) n m (g .results) ordinates records (zero-all .1) (g .carried);
+        carried = carried-moved named place (timeAt place (timeIs (s .reading .time))) (timeAt place (timeIs (r .time))) n m (g .results) ordinates records (zero-all .1) (g .carried);
         listed = λ (h : s .reading .phase ≡ phase.InBlock). absurd (not-outside (s .reading .phase) (timeIs (s .reading .time)) (formOf (s .reading .free)) (blockIs (s .reading) cards) start h);
         stays = λ (h : r .phase ≡ phase.InBlock). absurd (not-outside (r .phase) (timeIs (r .time)) (formOf (r .free)) (blockIs r cards′) (end .1) h);
         same =
@@ -146,7 +152,7 @@ module _ (deck : List ℕ) (named place n m : ℕ) (s : State) (work ordinates r
       record {
         held = rw nq (g .held);
         count = rw (there .0) h;
-        carried = rw nq (g .carried);
+        carried = subst (λ (τ : Time). Carried named place (timeAt place τ) n m (g .results) ordinates records) (sym (there .1)) (g .carried);
         listed = λ h. ap (λ (τ : Time). τ .listed) (there .1);
         stays = λ h. at;
         same =
@@ -157,7 +163,7 @@ module _ (deck : List ℕ) (named place n m : ℕ) (s : State) (work ordinates r
   pub moved : Moved named place n m s r (g .results) work ordinates records
   moved = by-phase (s .reading .phase) refl (g .count)
 
-  pub may-close : MayClose (readingUnder place r) (s .held) (s .blocks) work cards′
+  pub may-close : MayClose (readingUnder place r) (s .held) (s .blocks) place work cards′
   may-close =
       record {
         ready = record { few-ordinates = ready .few-ordinates; few-ratios = ready .few-ratios; short-name = ready .short-name; readable = ready .readable; counted = ready .counted };
@@ -165,4 +171,5 @@ module _ (deck : List ℕ) (named place n m : ℕ) (s : State) (work ordinates r
         before = length (g .results);
         held = moved .held;
         count = moved .count;
+        few-ratios = g .few-ratios;
       }

@@ -5,19 +5,22 @@ use mathlib.Core.List.{List, []}
 use lib.ListN.{length, replicate}
 use Rattle.meaning.specs.Run.{workedUnder, workSize}
 use Rattle.passes.specs.Apart.{ratioCount}
+use Rattle.passes.specs.One.{timeAt}
+use Rattle.blocks.specs.Meant.{timeIs}
 use Rattle.closing.specs.BetweenBlocks.{carried-none, held-none}
 use Rattle.turns.specs.declared.State.{State}
 use Rattle.walking.specs.Going.{Going}
 use Rattle.turns.specs.Turns.{StateBegins}
 
 module _ (deck : List ℕ) (named place : ℕ) (s : State) (work ordinates records cards : List ℕ) where
-  pub starts : StateBegins s cards → workSize ≤ length work → ordinates ≡ replicate (length ordinates) 0 → records ≡ replicate (length records) 0
+  pub starts : StateBegins s cards → place ≤ 9 → workSize ≤ length work → ordinates ≡ replicate (length ordinates) 0 → records ≡ replicate (length records) 0
       → Going deck named place (length ordinates) (length records) s work ordinates records cards
   unfolding workedUnder ratioCount
-  starts b enough no-flow untold =
-      let c = carried-none named (s .reading .time .ordinates) (length ordinates) (length records) in
+  starts b few enough no-flow untold =
+      let c = carried-none named place (timeAt place (timeIs (s .reading .time))) (length ordinates) (length records) in
       record {
         results = [];
+        few-ratios = few;
         up = rw (b .at) zero-le;
         counted = rw (b .line) zero-le;
         ready = b .reading .ready;

@@ -11,7 +11,8 @@ use Rattle.sequences.specs.Choices.{taken, passed}
 use Rattle.sequences.specs.Parts.{part}
 use Rattle.meaning.specs.Words.{_=?_}
 use Rattle.meaning.specs.Lines.{linesOf}
-use Rattle.meaning.specs.Blocks.{Time, orWhole}
+use Rattle.meaning.specs.Blocks.{Time, orWhole, ratioAt}
+use Rattle.meaning.specs.Results.{recordSize}
 use Rattle.meaning.specs.Run as run
 use Rattle.meaning.specs.Run.{InBlock, Open, End, Run, Standing, openRefusal, closed, Only, oneMore, Stopped, Done, walk, workedUnder, namedFlow, mostBlocks}
 use Rattle.meaning.specs.Records.{mostOrdinates}
@@ -25,6 +26,7 @@ use Rattle.blocks.specs.declared.Time as times
 use Rattle.blocks.specs.Meant.{ratiosIs, timeIs, nameIs}
 use Rattle.placing.specs.Readings.{readingIs, timeIn, formIn, Ready, openedIn, blockIs}
 use Rattle.stack.specs.View.{view, length-held}
+use Rattle.results.specs.Records.{recordsIn}
 use Rattle.closing.specs.BetweenBlocks.{Carried, carried-named}
 use Rattle.turns.specs.declared.Finished.{Finished}
 use Rattle.turns.specs.declared.State.{State}
@@ -32,6 +34,7 @@ use Rattle.turns.specs.declared.Turn.{Turn}
 use Rattle.turns.specs.Turns.{GoesOn, copiedLast}
 use Rattle.walking.specs.Events.{open-refused, open-too-many, open-goes, end-refused, end-not-one, end-done}
 use Rattle.passes.specs.Apart.{ratioCount}
+use Rattle.passes.specs.One.{timeAt}
 use Rattle.walking.specs.OneRun.{standing, closedRun, one-left, one-done, one-opened}
 use Rattle.walking.specs.Going.{listedIn, runOf, Going, DoneIs, readingUnder, ClosedBy}
 use Rattle.walking.specs.ReadingOn.{Moved, limits, moved}
@@ -41,7 +44,7 @@ use Rattle.walking.specs.Phases.{timed-by, results-by, few-by, one-up, l
 module _ (deck : List ℕ) (named place n m : ℕ) (s : State) (work ordinates records cards : List ℕ) (g : Going deck named place n m s work ordinates records cards)
     (r : Reading) (line : ℕ) (rest : List (List ℕ)) (cards′ : List ℕ) (ready : Ready r cards′)
     (x : Finished) (work′ ordinates′ records′ : List ℕ)
-    (c : ClosedBy (r .phase) (readingUnder place r) (s .held) (s .blocks) named x work work′ ordinates ordinates′ records records′ cards′) where
+    (c : ClosedBy (r .phase) (readingUnder place r) (s .held) (s .blocks) named place x work work′ ordinates ordinates′ records records′ cards′) where
   abbrev lines : List (List ℕ)
   lines = linesOf (drop (s .at) deck)
 
@@ -72,7 +75,7 @@ module _ (deck : List ℕ) (named place n m : ℕ) (s : State) (work ordinates r
     number = sym (closed-number named place n m r (s .held) (s .blocks) x work work′ ordinates ordinates′ records records′ cards′ (g .results) c)
 
     module _ (lw : length work′ ≡ length work) (lo : length ordinates′ ≡ length ordinates) (lr : length records′ ≡ length records) (none : x .refusal ≡ 0) where
-      pub well : ClosedWell named n m q was (r .time .ordinates) x work′ ordinates′ records′
+      pub well : ClosedWell named place n m q was (r .time .ordinates) x work′ ordinates′ records′
       well =
           closed-well named place n m r (s .held) (s .blocks) x work work′ ordinates ordinates′ records records′ cards′ (g .results) (move .held) (move .carried) lw lo lr none
           (limits deck named place n m s work ordinates records cards g e r line rest cards′ found ready .1) (move .count) c
@@ -93,7 +96,7 @@ module _ (deck : List ℕ) (named place n m : ℕ) (s : State) (work ordinates r
     -- a KK is refused in a block only, and the state there has the deck's ratios
     pub kk-counted : (x .refusal ≡ 0 → ⊥) ⊎ (mostBlocks ≤ s .blocks) → length (orWhole (listedIn s)) ≡ ratioCount deck
     kk-counted stopped =
-        counted-in (s .reading .phase) (r .phase) (readingUnder place r) (s .held) (s .blocks) named x work work′ ordinates ordinates′ records records′ cards′
+        counted-in (s .reading .phase) (r .phase) (readingUnder place r) (s .held) (s .blocks) named place x work work′ ordinates ordinates′ records records′ cards′
         (length (g .results)) (s .held .depth) lines from (listedIn s) (ratioCount deck) (g .ratios) (g .count) (move (Open next) found .count) c stopped
 
     pub kk-refused : (x .refusal ≡ 0 → ⊥) → workedUnder (Only place) deck ≡ Stopped (x .refusal) line
@@ -141,13 +144,15 @@ module _ (deck : List ℕ) (named place n m : ℕ) (s : State) (work ordinates r
           let many = as-many (Open next) found lw lo lr none in
           record {
             results = next-run .results;
+            few-ratios = g .few-ratios;
             up = rw (goes .place) up;
             counted = rw (goes .place, goes .lines) counted;
             ready = goes .reading .ready;
             within = rw same-next (limits deck named place n m s work ordinates records cards g (Open next) r line rest cards′ found ready .0);
             held = rw (goes .holds, nq) (w .held);
             count = rw (goes .reading .phase, goes .count, many) (refl, omega arith);
-            carried = rw nq (w .carried);
+            carried =
+                subst (λ (u : times.Time). Carried named place (timeAt place (timeIs u)) n m (next-run .results) ordinates′ records′) (sym (goes .reading .time)) (w .carried);
             ratios = rw (goes .reading .phase, goes .reading .time) ratios-next;
             walked =
                 rw (goes .place, goes .lines, same-next, goes .reading .phase, goes .holds, goes .count, goes .reading .time, ← here, ← more)
@@ -181,7 +186,7 @@ module _ (deck : List ℕ) (named place n m : ℕ) (s : State) (work ordinates r
             ∙ end-done (Only place) lines from stand (s .line + 1) (timeIn q) q line rest found (number (End (timeIn q)) found ∙ none) (sym depth ∙ one)
             ∙ ap (Done (timeIn q)) (one-done (timeIs (r .time)) (formOf (r .free)) (blockIs r cards′) (s .blocks) was (r .phase) in-block)
 
-        abbrev w : ClosedWell named n m q was (r .time .ordinates) x work′ ordinates′ records′
+        abbrev w : ClosedWell named place n m q was (r .time .ordinates) x work′ ordinates′ records′
         w = well (End (timeIn q)) found lw lo lr none
 
         flow-by : (t : Bool) → (named =? 0) ≡ t → named ≤ length (next-run .results) → r .time .ordinates ≤ n
@@ -190,9 +195,9 @@ module _ (deck : List ℕ) (named place n m : ℕ) (s : State) (work ordinates r
         flow-by true e few room =
             let last : named ≡ 0 = eqb-true named 0 e in
             sym (taken _ e refl)
-            ∙ rw last (last-by (r .phase) (timeIs (r .time)) (formOf (r .free)) (blockIs r cards′) was (s .blocks) (s .held .depth) (r .time .ordinates) n m (x .held) work′ ordinates′ records′
+            ∙ rw last (last-by (r .phase) (timeIs (r .time)) (formOf (r .free)) (blockIs r cards′) was (s .blocks) (s .held .depth) place n m (x .held) work′ ordinates′ records′
             (move (End (timeIn q)) found .count) (length-held (r .time .ordinates) (s .held .areas) (s .held .depth) work) (w .held-is) (omega arith) room
-            (subst (λ (k : ℕ). Carried k (r .time .ordinates) n m (next-run .results) ordinates′ records′) last (w .carried)))
+            (subst (λ (k : ℕ). Carried k place (was .time) n m (next-run .results) ordinates′ records′) last (w .carried)))
         flow-by false e few room =
             let some : named ≡ 0 → ⊥ = eqb-false named 0 e in
             sym (passed _ e refl) ∙ carried-named (w .carried) (one-up named some) few room
@@ -211,6 +216,8 @@ module _ (deck : List ℕ) (named place n m : ℕ) (s : State) (work ordinates r
               blocks-are = as-many (End (timeIn q)) found lw lo lr none;
               few = few-by (r .phase) (s .blocks) (length (g .results)) (s .held .depth) (move (End (timeIn q)) found .count);
               names = w .carried .names;
-              told = w .carried .told;
+              told =
+                  subst (λ (τ : Time). recordSize * length (next-run .results) ≤ m → records′ ≡ recordsIn (ratioAt place τ) (place + 1) m (next-run .results))
+                  (sym (timed-by (r .phase) (timeIs (r .time)) (formOf (r .free)) (blockIs r cards′) under .0)) (w .carried .told);
               flow = λ few room. copied ∙ flow-by (named =? 0) refl few room;
             }

@@ -17,20 +17,21 @@ use turns::Finished;
 use turns::State;
 use turns::Turn;
 use turns::Worked;
+use writing::Asked;
 
 // The open block, before which `k` blocks were closed, closed; and, if it was not refused, its result written.
 fn finish_block(
     r: Reading,
     held: Stack,
     k: usize,
-    named: usize,
+    asked: Asked,
     work: &mut [u64],
     ordinates: &mut [u64],
     records: &mut [u8],
     cards: &[u64],
 ) -> Finished
-    requires { ⌜ MayFinish r held k (now work) (now cards) ⌝ }
-    ensures { λ x. ⌜ Finishes (timeIs (r .time)) (blockIs r (now (cards .entry))) held named k x (now (work .entry)) (now (work .exit)) (now (ordinates .entry)) (now (ordinates .exit)) (now (records .entry)) (now (records .exit)) ⌝ }
+    requires { ⌜ MayFinish r held k (asked .place) (now work) (now cards) ⌝ }
+    ensures { λ x. ⌜ Finishes (timeIs (r .time)) (blockIs r (now (cards .entry))) held (asked .named) (asked .place) k x (now (work .entry)) (now (work .exit)) (now (ordinates .entry)) (now (ordinates .exit)) (now (records .entry)) (now (records .exit)) ⌝ }
 {
     let closed = closing::close_block(work, held, r.time, cards);
     let next = closed.held;
@@ -41,16 +42,7 @@ fn finish_block(
             held: next,
         };
     }
-    writing::write_result(
-        r.name,
-        closed,
-        k,
-        named,
-        r.time.ordinates,
-        work,
-        ordinates,
-        records,
-    );
+    writing::write_result(r.name, closed, k, asked, r.time, work, ordinates, records);
     Finished {
         refusal,
         held: next,
@@ -62,14 +54,14 @@ fn close_open(
     r: Reading,
     held: Stack,
     blocks: usize,
-    named: usize,
+    asked: Asked,
     work: &mut [u64],
     ordinates: &mut [u64],
     records: &mut [u8],
     cards: &[u64],
 ) -> Finished
-    requires { ⌜ MayClose r held blocks (now work) (now cards) ⌝ }
-    ensures { λ x. ⌜ ClosedBy (r .phase) r held blocks named x (now (work .entry)) (now (work .exit)) (now (ordinates .entry)) (now (ordinates .exit)) (now (records .entry)) (now (records .exit)) (now (cards .entry)) ⌝ }
+    requires { ⌜ MayClose r held blocks (asked .place) (now work) (now cards) ⌝ }
+    ensures { λ x. ⌜ ClosedBy (r .phase) r held blocks (asked .named) (asked .place) x (now (work .entry)) (now (work .exit)) (now (ordinates .entry)) (now (ordinates .exit)) (now (records .entry)) (now (records .exit)) (now (cards .entry)) ⌝ }
 {
     let phase = r.phase;
     match phase {
@@ -83,7 +75,7 @@ fn close_open(
         },
         Phase::InBlock => {
             let k = blocks - 1;
-            finish_block(r, held, k, named, work, ordinates, records, cards)
+            finish_block(r, held, k, asked, work, ordinates, records, cards)
         }
     }
 }
@@ -131,7 +123,7 @@ fn step(
         read_under(got.reading, place),
         s.held,
         s.blocks,
-        named,
+        Asked { named, place },
         work,
         ordinates,
         records,
@@ -179,6 +171,7 @@ pub fn walk_deck(
 ) -> Walked
     requires { ⌜ (workSize ≤ length (now work)) × (wordsOf table ≤ length (now cards)) ⌝ }
     requires { ⌜ (now ordinates ≡ replicate (length (now ordinates)) 0) × (now records ≡ replicate (length (now records)) 0) ⌝ }
+    requires { ⌜ place ≤ 9 ⌝ }
     ensures { λ w. ⌜ WalkedIs (now (deck .entry)) named place (length (now (ordinates .entry))) (length (now (records .entry))) w (now (ordinates .exit)) (now (records .exit)) ⌝ }
 {
     let mut s = turns::first_state(cards);

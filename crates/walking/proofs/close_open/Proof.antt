@@ -20,7 +20,7 @@ finish-block-requires c κs =
     let s = c .before .before .before .before .before .before .before .before .before in
     let at = c .before .before .before .enum-told3 .given .1 in
     let k = counted s at in
-    record { ready = s .pre .ready; place = at; within = s .pre .within; held = held-as _ (s .pre .before) (omega arith) (s .pre .held); few = omega arith }
+    record { ready = s .pre .ready; place = at; within = s .pre .within; held = held-as _ (s .pre .before) (omega arith) (s .pre .held); few = omega arith; few-ratios = s .pre .few-ratios }
 
 returns : tie.Need-returns
 returns c = rw (c .enum-told .given .1) (refl, refl, refl, refl, refl)

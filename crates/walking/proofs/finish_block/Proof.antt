@@ -42,7 +42,7 @@ write-result-requires c κs =
     let k = c .before .before .before .before .before .before .before .close-block in
     let keeps = k .ensures [] .keeps (c .before .before .before .if1 .left) in
     let fits = s .pre .held .fits in
-    ((s .pre .few, s .pre .ready .short-name), (keeps .some, record { deep = keeps .deep; ordinates = fits .ordinates; enough = omega (arith, k .kept .0, fits .enough) }))
+    ((s .pre .few, s .pre .ready .short-name, s .pre .few-ratios), (keeps .some, record { deep = keeps .deep; ordinates = fits .ordinates; enough = omega (arith, k .kept .0, fits .enough) }))
 
 returns-2 : tie.Need-returns-2
 returns-2 c =

@@ -94,14 +94,14 @@ closed-by : (c : tie.After-slice-known8)
     → let x = entry (read (mark c)) .args in
     let k = closed c .close-open in
     let r = read (mark c) .read-on .result .reading in
-    ClosedBy (r .phase) (readingUnder (x .place) r) (x .s .held) (x .s .blocks) (x .named) (k .result) (x .work .now) (k .last .1 .1 .1 .1 .0)
+    ClosedBy (r .phase) (readingUnder (x .place) r) (x .s .held) (x .s .blocks) (x .named) (x .place) (k .result) (x .work .now) (k .last .1 .1 .1 .1 .0)
     (x .ordinates .now) (k .last .1 .1 .1 .1 .1 .0) (x .records .now) (k .last .1 .1 .1 .1 .1 .1 .0) (cards (read (mark c)))
 closed-by c =
     let x = entry (read (mark c)) .args in
     let k = closed c .close-open in
     subst
     (λ (u : Reading).
-    ClosedBy (u .phase) u (x .s .held) (x .s .blocks) (x .named) (k .result) (x .work .now) (k .last .1 .1 .1 .1 .0)
+    ClosedBy (u .phase) u (x .s .held) (x .s .blocks) (x .named) (x .place) (k .result) (x .work .now) (k .last .1 .1 .1 .1 .0)
     (x .ordinates .now) (k .last .1 .1 .1 .1 .1 .0) (x .records .now) (k .last .1 .1 .1 .1 .1 .1 .0) (cards (read (mark c))))
     (rated c .read-under .ensures) (k .ensures)
 

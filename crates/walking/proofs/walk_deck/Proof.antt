@@ -31,7 +31,7 @@ loop-holds c =
     let x = c .before .before .before .before .before .before .before .before .before .args in
     let p = c .before .before .before .before .before .before .before .before .before .pre in
     let f = c .before .before .first-state in
-    let going = starts (x .deck .now) (x .named) (x .place) (f .result) (x .work .now) (x .ordinates .now) (x .records .now) (f .last .0) (f .ensures) (p .0 .0) (p .1 .0) (p .1 .1) in
+    let going = starts (x .deck .now) (x .named) (x .place) (f .result) (x .work .now) (x .ordinates .now) (x .records .now) (f .last .0) (f .ensures) (p .1 .1) (p .0 .0) (p .1 .0 .0) (p .1 .0 .1) in
     record { going = going; work-long = refl; ordinates-long = refl; records-long = refl; cards-long = refl }
 
 step-requires : tie.Need-step-requires Inv-loop μ-loop
