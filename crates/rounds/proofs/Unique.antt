@@ -7,7 +7,7 @@ use mathlib.Core.List.{List, [], _++_}
 use lib.ListN.{length, replicate}
 use denote.Ref.{now}
 use Rattle.sequences.specs.Contracts.{Once, OnceAt}
-use Rattle.meaning.specs.Blocks.{orWhole}
+use Rattle.meaning.specs.Blocks.{Time, orWhole}
 use Rattle.meaning.specs.Results.{Result}
 use Rattle.meaning.specs.Run as run
 use Rattle.meaning.specs.Run.{Stopped, Done, worked, namedFlow, namedRatio, allRecords, recordBytes}
@@ -40,8 +40,16 @@ resultsOf : run.Worked → List (List Result)
 resultsOf (Stopped number line) = []
 resultsOf (Done τ rss) = rss
 
+-- a refused deck has none
+abbrev timeOf : run.Worked → Time
+timeOf (Stopped number line) = record { minutes = 0; ordinates = 0; ratio = 0; listed = [] }
+timeOf (Done τ rss) = τ
+
 module _ (deck : List ℕ) (wanted : Wanted) (n m : ℕ) (listed : List ℕ) (nq blocks : ℕ) (known : wanted .block ≤ blocks) (flows : nq ≤ n) (rated : wanted .ratio ≤ length (orWhole listed))
     (room : recordBytes blocks (length (orWhole listed)) ≤ m) where
+  abbrev time : Time
+  time = timeOf (worked deck)
+
   abbrev results : List (List Result)
   results = resultsOf (worked deck)
 
@@ -50,11 +58,12 @@ module _ (deck : List ℕ) (wanted : Wanted) (n m : ℕ) (listed : List ℕ) (nq
     unfolding resultsOf
     results-are = rw (d .done)
 
-    records-are : records ≡ allRecords results ++ replicate (m - recordBytes blocks (length (orWhole listed))) 0
+    records-are : records ≡ allRecords time 0 results ++ replicate (m - recordBytes blocks (length (orWhole listed))) 0
+    unfolding resultsOf
     records-are =
         let h = d .holds .told (rw (d .blocks-are) room) in
         let told = rw (d .blocks-are) at h in
-        told ∙ ap (λ (rss : List (List Result)). allRecords rss ++ replicate (m - recordBytes blocks (length (orWhole listed))) 0) results-are
+        told ∙ ap (λ (w : run.Worked). allRecords (timeOf w) 0 (resultsOf w) ++ replicate (m - recordBytes blocks (length (orWhole listed))) 0) (sym (d .done))
 
     flow-is : ordinates ≡ namedFlow (wanted .block) (namedRatio (wanted .ratio) results) ++ replicate (n - nq) 0
     flow-is =

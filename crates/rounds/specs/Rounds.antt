@@ -12,7 +12,7 @@ use lib.ListN.{length, take, drop, getD, replicate, length-take, drop-of-length-
 use lib.Seq.{take-all}
 use Rattle.sequences.specs.Choices.{below-or-not}
 use Rattle.meaning.specs.Words.{if_then_else_}
-use Rattle.meaning.specs.Blocks.{Time, orWhole}
+use Rattle.meaning.specs.Blocks.{Time, orWhole, ratioAt}
 use Rattle.meaning.specs.Results.{Result, recordSize}
 use Rattle.meaning.specs.Run as run
 use Rattle.meaning.specs.Run.{Stopped, Done, Only, workedUnder, worked, blockCount, recordBytes, mostBlocks}
@@ -105,10 +105,10 @@ counted-nine r few = whole-few (ratiosIs r) (rw (length-take (r .count) (r .valu
 -- a round that came to its end, in the words of the loop
 walk-is : {deck : List ℕ} {named k n m : ℕ} {listed : List ℕ} {nq blocks : ℕ} {ordinates records : List ℕ} (d : DoneIs deck named k n m listed nq blocks ordinates records)
     → WalkIs deck k named n m (d .time) (d .results) ordinates records
-walk-is d =
+walk-is {k = k} d =
     record {
       done = d .done;
-      long = length-records (d .results) (d .names);
+      long = length-records (ratioAt k (d .time)) (k + 1) (d .results) (d .names);
       told = d .told;
       flow = λ few room. rw (d .ordinates-are) (d .flow few (rw (d .ordinates-are) at room));
     }

@@ -35,7 +35,7 @@ walk-deck-requires c κs =
     let f = c .before .before .before .before in
     let p = entry f .pre in
     let x = entry f .args in
-    (p .0, (zeros-part (f .ordinates-from .result) (x .ordinates .now) (zeros-drop (f .ordinates-from .result) (x .ordinates .now) (p .1 .0)), p .1 .1))
+    (p .0, ((zeros-part (f .ordinates-from .result) (x .ordinates .now) (zeros-drop (f .ordinates-from .result) (x .ordinates .now) (p .1 .0)), p .1 .1), omega arith))
 
 returns : tie.Need-returns
 returns c =

@@ -77,7 +77,7 @@ walk-deck-requires c κs =
     let a = from p .ordinates-from .result in
     let b = behind p .records-from .result in
     let os = cleared-drop a (x .ordinates .now) (cleared p) (ordinates-begin (from p)) (cleared-long p) (p .clear-from .ensures) in
-    (entry (from p) .pre .0, (zeros-part a (cleared p) os, zeros-part b (x .records .now) (records-lent p)))
+    (entry (from p) .pre .0, ((zeros-part a (cleared p) os, zeros-part b (x .records .now) (records-lent p)), entry (from p) .pre .1 .0 .1))
 
 returns : tie.Need-returns
 returns c =
