@@ -15,7 +15,7 @@ use Rattle.meaning.specs.Fields.{trimEnd, isBlank}
 use Rattle.meaning.specs.Records.{anyBlank, mostOrdinates}
 use Rattle.meaning.specs.Water.{flowLimit, sumOf}
 use Rattle.meaning.specs.Blocks.{Kind, NoKind, Basin, Inflow, Confluence, Reach, kindNumber, kindOf}
-use Rattle.meaning.specs.Results.{Result, peakOf, intervalOf, littleEndian, blanksAfter, recordOf}
+use Rattle.meaning.specs.Results.{Result, peakOf, intervalOf, littleEndian, blanksAfter, labelOf, recordOf}
 use Rattle.meaning.specs.Listing.{whole, twoPlaces, rounded, listed}
 use Rattle.sequences.specs.Parts.{part}
 use Rattle.summary.specs.Peaks.{interval-bound, sum-bound}
@@ -26,20 +26,20 @@ use Rattle.figures.specs.declared.Figures.{Figures}
 use Rattle.figures.specs.Line.{figuresOf, figuresText, lineOf}
 
 -- The bytes of a record behind the name.
-abbrev tail : (kind area peak interval sum : ℕ) → List ℕ
-tail kind area peak interval sum =
-    littleEndian 1 kind ++ littleEndian 1 0 ++ littleEndian 4 area ++ littleEndian 8 peak ++ littleEndian 2 interval ++ littleEndian 2 0 ++ littleEndian 8 sum
+abbrev tail : (kind area peak interval sum ratio place : ℕ) → List ℕ
+tail kind area peak interval sum ratio place =
+    littleEndian 1 kind ++ littleEndian 1 0 ++ littleEndian 4 area ++ littleEndian 8 peak ++ littleEndian 2 interval ++ littleEndian 2 0 ++ littleEndian 8 sum ++ labelOf ratio place
 
-module _ (name : List ℕ) (kind area peak interval sum : ℕ) (short : length name ≤ 6) where
-  behind-name : recordBytes name kind area peak interval sum ≡ blanksAfter 6 name ++ tail kind area peak interval sum
+module _ (name : List ℕ) (kind area peak interval sum ratio place : ℕ) (short : length name ≤ 6) where
+  behind-name : recordBytes name kind area peak interval sum ratio place ≡ blanksAfter 6 name ++ tail kind area peak interval sum ratio place
   behind-name = simp append-assoc
 
-  name-part : part 0 6 (recordBytes name kind area peak interval sum) ≡ blanksAfter 6 name
+  name-part : part 0 6 (recordBytes name kind area peak interval sum ratio place) ≡ blanksAfter 6 name
   name-part = rw behind-name (take-at (blanksAfter 6 name) _ 6 (length-blanksAfter 6 name short))
 
   -- a part behind the name
-  figure-part : (a n : ℕ) → part (6 + a) n (recordBytes name kind area peak interval sum) ≡ part a n (tail kind area peak interval sum)
-  figure-part a n = rw (behind-name, ← drop-drop a 6 (blanksAfter 6 name ++ tail kind area peak interval sum), drop-at (blanksAfter 6 name) _ 6 (length-blanksAfter 6 name short))
+  figure-part : (a n : ℕ) → part (6 + a) n (recordBytes name kind area peak interval sum ratio place) ≡ part a n (tail kind area peak interval sum ratio place)
+  figure-part a n = rw (behind-name, ← drop-drop a 6 (blanksAfter 6 name ++ tail kind area peak interval sum ratio place), drop-at (blanksAfter 6 name) _ 6 (length-blanksAfter 6 name short))
 
 same-figures : {k a p i s k′ a′ p′ i′ s′ : ℕ} → k ≡ k′ → a ≡ a′ → p ≡ p′ → i ≡ i′ → s ≡ s′
     → _≡_ {A = Figures} (record { kind = k; area = a; peak = p; interval = i; sum = s }) (record { kind = k′; area = a′; peak = p′; interval = i′; sum = s′ })
@@ -75,17 +75,17 @@ figuresIn r =
       sum = sumOf (r .held .flow);
     }
 
-module _ (r : Result) (fit : Fits r) where
+module _ (ratio place : ℕ) (r : Result) (fit : Fits r) where
   abbrev f : Figures
   f = figuresIn r
 
   abbrev peak : ℕ
   peak = peakOf (r .held .flow)
 
-  figure-at : (a n : ℕ) → part (6 + a) n (recordOf r) ≡ part a n (tail (f .kind) (f .area) peak (f .interval) (f .sum))
-  figure-at a n = ap (part (6 + a) n) (record-of r) ∙ figure-part (r .block .name) (f .kind) (f .area) peak (f .interval) (f .sum) (fit .short) a n
+  figure-at : (a n : ℕ) → part (6 + a) n (recordOf ratio place r) ≡ part a n (tail (f .kind) (f .area) peak (f .interval) (f .sum) ratio place)
+  figure-at a n = ap (part (6 + a) n) (record-of ratio place r) ∙ figure-part (r .block .name) (f .kind) (f .area) peak (f .interval) (f .sum) ratio place (fit .short) a n
 
-  figures-of : figuresOf (recordOf r) ≡ f
+  figures-of : figuresOf (recordOf ratio place r) ≡ f
   figures-of =
       same-figures
       (ap fromLittleEndian (figure-at 0 1) ∙ read-back 1 (f .kind) (kind-below (kindOf (r .block))))
@@ -94,17 +94,17 @@ module _ (r : Result) (fit : Fits r) where
       (ap fromLittleEndian (figure-at 14 2) ∙ read-back 2 (f .interval) (fit .interval))
       (ap fromLittleEndian (figure-at 18 8) ∙ read-back 8 (f .sum) (fit .sum))
 
-  name-of : trimEnd isBlank (part 0 6 (recordOf r)) ≡ r .block .name
+  name-of : trimEnd isBlank (part 0 6 (recordOf ratio place r)) ≡ r .block .name
   name-of =
-      ap (λ (l : List ℕ). trimEnd isBlank (part 0 6 l)) (record-of r)
-      ∙ ap (trimEnd isBlank) (name-part (r .block .name) (f .kind) (f .area) peak (f .interval) (f .sum) (fit .short))
+      ap (λ (l : List ℕ). trimEnd isBlank (part 0 6 l)) (record-of ratio place r)
+      ∙ ap (trimEnd isBlank) (name-part (r .block .name) (f .kind) (f .area) peak (f .interval) (f .sum) ratio place (fit .short))
       ∙ trim-name (r .block .name) (6 - length (r .block .name)) (fit .plain)
 
-  line-parts : lineOf (recordOf r) ≡ r .block .name ++ figuresText f
+  line-parts : lineOf (recordOf ratio place r) ≡ r .block .name ++ figuresText f
   unfolding lineOf
-  line-parts = ap (λ (l : List ℕ). l ++ figuresText (figuresOf (recordOf r))) name-of ∙ ap (λ (g : Figures). r .block .name ++ figuresText g) figures-of
+  line-parts = ap (λ (l : List ℕ). l ++ figuresText (figuresOf (recordOf ratio place r))) name-of ∙ ap (λ (g : Figures). r .block .name ++ figuresText g) figures-of
 
-  pub line-of : lineOf (recordOf r) ≡ listed r
+  pub line-of : lineOf (recordOf ratio place r) ≡ listed r
   unfolding figuresText listed
   line-of =
       line-parts

@@ -8,7 +8,7 @@ use Prim.Native.Nat.{ℕ, zero, suc, _+_, _*_}
 use native.Mathlib.Omega.{arith}
 use lib.ListN.{length, drop, getD}
 use lib.Seq.{take-at, drop-at, drop-drop}
-use Rattle.meaning.specs.Blocks.{Time, orWhole, ratiosOf}
+use Rattle.meaning.specs.Blocks.{Time, orWhole, ratiosOf, ratioAt}
 use Rattle.meaning.specs.Results.{Result, recordSize, recordOf, recordsOf}
 use Rattle.meaning.specs.Run.{Done, blockCount, allRecords, recordBytes}
 use Rattle.meaning.specs.Listing.{listedAll, ratioLine, listedUnder, listingBy}
@@ -26,12 +26,13 @@ lines-front r records (suc k) long =
     rw (place, ← drop-drop (recordSize * k) recordSize (r ++ records), drop-at r records recordSize long) in
     rw (next, lines-front r records k long) (append-assoc (lineOf r) (linesTo k records) (lineOf (part (recordSize * k) recordSize records)))
 
-pub lines-of : (rs : List Result) (rest : List ℕ) → Each Fits rs → linesTo (length rs) (recordsOf rs ++ rest) ≡ listedAll rs
-lines-of [] rest fs = refl
-lines-of (r ∷ rs) rest fs =
-    ap (linesTo (suc (length rs))) (append-assoc (recordOf r) (recordsOf rs) rest)
-    ∙ lines-front (recordOf r) (recordsOf rs ++ rest) (length rs) (length-record r (fs .0 .short))
-    ∙ rw (line-of r (fs .0), lines-of rs rest (fs .1))
+-- whatever ratio the records say
+pub lines-of : (ratio place : ℕ) (rs : List Result) (rest : List ℕ) → Each Fits rs → linesTo (length rs) (recordsOf ratio place rs ++ rest) ≡ listedAll rs
+lines-of ratio place [] rest fs = refl
+lines-of ratio place (r ∷ rs) rest fs =
+    ap (linesTo (suc (length rs))) (append-assoc (recordOf ratio place r) (recordsOf ratio place rs) rest)
+    ∙ lines-front (recordOf ratio place r) (recordsOf ratio place rs ++ rest) (length rs) (length-record ratio place r (fs .0 .short))
+    ∙ rw (line-of ratio place r (fs .0), lines-of ratio place rs rest (fs .1))
 
 -- Under each ratio as many results, each with its record.
 abbrev pub Lots : (blocks : ℕ) → List (List Result) → Type 0
@@ -55,30 +56,36 @@ under-front r ratios blocks lot records (suc k) long =
     rw (next, under-front r ratios blocks lot records k long)
     (append-assoc (ratioLine r ++ linesTo blocks (lot ++ records)) (underTo k ratios blocks records) (ratioLine (getD ratios k 0) ++ linesTo blocks (drop (recordBytes blocks k) records)))
 
-lot-of : (blocks : ℕ) (rs : List Result) (rest : List ℕ) → (length rs ≡ blocks) × Each Fits rs → linesTo blocks (recordsOf rs ++ rest) ≡ listedAll rs
-lot-of blocks rs rest lot = rw (← lot .0) (lines-of rs rest (lot .1))
+-- THE RECORDS of a deck, from those of the ratio at place k on
+module _ (τ : Time) where
+  abbrev recordsAt : ℕ → List Result → List ℕ
+  recordsAt k rs = recordsOf (ratioAt k τ) (k + 1) rs
 
-under-of : (ratios : List ℕ) (blocks : ℕ) (rss : List (List Result)) (rest : List ℕ) → length rss ≡ length ratios → Lots blocks rss
-    → underTo (length ratios) ratios blocks (allRecords rss ++ rest) ≡ listedUnder ratios rss
-under-of [] blocks [] rest alike lots = refl
-under-of [] blocks (rs ∷ rss) rest alike lots = absurd (omega arith)
-under-of (r ∷ ratios) blocks [] rest alike lots = absurd (omega arith)
-under-of (r ∷ ratios) blocks (rs ∷ rss) rest alike lots =
-    let long = length-records rs (each-named rs (lots .0 .1)) ∙ ap (λ (n : ℕ). recordSize * n) (lots .0 .0) in
-    ap (underTo (suc (length ratios)) (r ∷ ratios) blocks) (append-assoc (recordsOf rs) (allRecords rss) rest)
-    ∙ under-front r ratios blocks (recordsOf rs) (allRecords rss ++ rest) (length ratios) long
-    ∙ rw (lot-of blocks rs (allRecords rss ++ rest) (lots .0), under-of ratios blocks rss rest (omega arith) (lots .1))
+  lot-of : (k blocks : ℕ) (rs : List Result) (rest : List ℕ) → (length rs ≡ blocks) × Each Fits rs → linesTo blocks (recordsAt k rs ++ rest) ≡ listedAll rs
+  lot-of k blocks rs rest lot = rw (← lot .0) (lines-of (ratioAt k τ) (k + 1) rs rest (lot .1))
 
--- without ratios there is one lot
-blocks-of : (ratios : List ℕ) (rss : List (List Result)) (rest : List ℕ) → length rss ≡ length (orWhole ratios) → Lots (blockCount rss) rss
-    → blocksText ratios (blockCount rss) (allRecords rss ++ rest) ≡ listedUnder ratios rss
-blocks-of [] [] rest alike lots = absurd (omega arith)
-blocks-of [] (rs ∷ []) rest alike lots =
-    ap (linesTo (length rs)) (append-assoc (recordsOf rs) [] rest) ∙ lines-of rs rest (lots .0 .1) ∙ sym (append-nil (listedAll rs))
-blocks-of [] (rs ∷ qs ∷ rss) rest alike lots = absurd (omega arith)
-blocks-of (r ∷ ratios) rss rest alike lots = under-of (r ∷ ratios) (blockCount rss) rss rest alike lots
+  under-of : (k : ℕ) (ratios : List ℕ) (blocks : ℕ) (rss : List (List Result)) (rest : List ℕ) → length rss ≡ length ratios → Lots blocks rss
+      → underTo (length ratios) ratios blocks (allRecords τ k rss ++ rest) ≡ listedUnder ratios rss
+  under-of k [] blocks [] rest alike lots = refl
+  under-of k [] blocks (rs ∷ rss) rest alike lots = absurd (omega arith)
+  under-of k (r ∷ ratios) blocks [] rest alike lots = absurd (omega arith)
+  under-of k (r ∷ ratios) blocks (rs ∷ rss) rest alike lots =
+      let long = length-records (ratioAt k τ) (k + 1) rs (each-named rs (lots .0 .1)) ∙ ap (λ (n : ℕ). recordSize * n) (lots .0 .0) in
+      let more = allRecords τ (k + 1) rss in
+      ap (underTo (suc (length ratios)) (r ∷ ratios) blocks) (append-assoc (recordsAt k rs) more rest)
+      ∙ under-front r ratios blocks (recordsAt k rs) (more ++ rest) (length ratios) long
+      ∙ rw (lot-of k blocks rs (more ++ rest) (lots .0), under-of (k + 1) ratios blocks rss rest (omega arith) (lots .1))
+
+  -- without ratios there is one lot
+  blocks-of : (ratios : List ℕ) (rss : List (List Result)) (rest : List ℕ) → length rss ≡ length (orWhole ratios) → Lots (blockCount rss) rss
+      → blocksText ratios (blockCount rss) (allRecords τ 0 rss ++ rest) ≡ listedUnder ratios rss
+  blocks-of [] [] rest alike lots = absurd (omega arith)
+  blocks-of [] (rs ∷ []) rest alike lots =
+      ap (linesTo (length rs)) (append-assoc (recordsAt 0 rs) [] rest) ∙ lines-of (ratioAt 0 τ) 1 rs rest (lots .0 .1) ∙ sym (append-nil (listedAll rs))
+  blocks-of [] (rs ∷ qs ∷ rss) rest alike lots = absurd (omega arith)
+  blocks-of (r ∷ ratios) rss rest alike lots = under-of 0 (r ∷ ratios) (blockCount rss) rss rest alike lots
 
 pub listing-of : (τ : Time) (rss : List (List Result)) (rest : List ℕ) → length rss ≡ length (ratiosOf τ) → Lots (blockCount rss) rss
-    → listingOf (τ .listed) (blockCount rss) (allRecords rss ++ rest) ≡ listingBy (Done τ rss)
+    → listingOf (τ .listed) (blockCount rss) (allRecords τ 0 rss ++ rest) ≡ listingBy (Done τ rss)
 unfolding listingOf
-listing-of τ rss rest alike lots = rw (blocks-of (τ .listed) rss rest alike lots)
+listing-of τ rss rest alike lots = rw (blocks-of τ (τ .listed) rss rest alike lots)
