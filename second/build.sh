@@ -4,5 +4,7 @@ set -eu
 here=$(CDPATH= cd -- "$(dirname -- "$0")" && pwd)
 out=$here/../target/second
 mkdir -p "$out"
-"${CC:-gcc}" -std=c11 -Wall -Wextra -Wpedantic -O2 \
-    -o "$out/hec1" "$here/main.c" "$here/engine.c" "$here/cards.c"
+cd "$here"
+. ./kit.sh
+# shellcheck disable=SC2086,SC2154
+"${CC:-gcc}" -std=c11 -Wall -Wextra -Wpedantic -O2 -o "$out/hec1" $sources

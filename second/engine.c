@@ -2,7 +2,8 @@
  * (document 01, 'Water, in whole units'; document 02, CR 1, for rain that
  * comes as a total and a pattern, CR 2 for the losses and CR 3 for ratios of
  * the rain), the second the records and their limits, the third the blocks,
- * the passes over the deck and the order of the refusals ('What comes back').
+ * the passes over the deck and the order of the refusals ('What comes back';
+ * CR 4 for the record that says its ratio).
  * Functions that can refuse return the refusal's number, 0 if none. */
 #include "engine.h"
 
@@ -36,8 +37,7 @@ enum refusal {
 enum {
     UNIT_GRAPH_LIMIT = 150,             /* UI values in a block */
     DEPTH_PER_TEN_THOUSANDTH = 60,      /* depth units */
-    FLOW_PER_HUNDREDTH = 600000,        /* flow units */
-    WHOLE_RATIO = 100                   /* the ratio 1.00, in hundredths */
+    FLOW_PER_HUNDREDTH = 600000         /* flow units */
 };
 
 static const uint64_t FLOW_LIMIT = 6000000000000;
@@ -499,9 +499,13 @@ static void put_number(uint8_t *at, uint64_t number, unsigned bytes)
         at[k] = (uint8_t)number;
 }
 
-static void write_record(uint8_t *record, struct text name, enum kind kind,
-                         uint32_t area, const struct summary *summary)
+/* The record of the open block, under the pass's ratio. */
+static void write_record(uint8_t *record, const struct run *run,
+                         enum kind kind, uint32_t area,
+                         const struct summary *summary)
 {
+    struct text name = run->block.name;
+
     memset(record, 0, RECORD_BYTES);
     memset(record + RECORD_NAME, ' ', NAME_LIMIT);
     memcpy(record + RECORD_NAME, name.at, name.length);
@@ -510,6 +514,8 @@ static void write_record(uint8_t *record, struct text name, enum kind kind,
     put_number(record + RECORD_PEAK, summary->peak, 8);
     put_number(record + RECORD_INTERVAL, summary->interval, 2);
     put_number(record + RECORD_SUM, summary->sum, 8);
+    put_number(record + RECORD_RATIO, run->ratios.value[run->place], 2);
+    put_number(record + RECORD_PLACE, run->place + 1, 2);
 }
 
 /* The ordinates of the named block, where the pass is the named ratio's. */
@@ -533,8 +539,8 @@ static void hand_out(struct run *run, enum kind kind, uint32_t area,
     size_t records = run->first_record + run->blocks;
 
     if (room->record_bytes / RECORD_BYTES >= records)
-        write_record(room->records + (records - 1) * RECORD_BYTES,
-                     run->block.name, kind, area, summary);
+        write_record(room->records + (records - 1) * RECORD_BYTES, run, kind,
+                     area, summary);
     if (run->named.block == run->blocks)
         hand_out_ordinates(run, flow);
 }

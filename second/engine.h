@@ -1,4 +1,4 @@
-/* The hydrograph engine of document 01 and document 02, CR 1 to CR 3: one
+/* The hydrograph engine of document 01 and document 02, CR 1 to CR 4: one
  * deck in, the hydrographs of its blocks out, all in memory that the caller
  * lends. */
 #ifndef ENGINE_H
@@ -15,17 +15,21 @@ enum {
     WORK_WORDS = HELD_LIMIT * ORDINATE_LIMIT,
     BLOCK_LIMIT = 200,
     RATIO_LIMIT = 9,        /* on JR */
-    RECORD_BYTES = 32
+    WHOLE_RATIO = 100,      /* the ratio 1.00, in hundredths */
+    RECORD_BYTES = 40
 };
 
-/* Where the parts of a block's record begin. */
+/* Where the parts of a block's record begin.  Behind kind, interval and place
+ * there is padding, which is zero. */
 enum {
     RECORD_NAME = 0,
     RECORD_KIND = 6,
     RECORD_AREA = 8,
     RECORD_PEAK = 12,
     RECORD_INTERVAL = 20,
-    RECORD_SUM = 24
+    RECORD_SUM = 24,
+    RECORD_RATIO = 32,
+    RECORD_PLACE = 34       /* of the ratio on JR, from 1 */
 };
 
 /* What the caller lends.  Each may be of any size; whatever the run does not
@@ -40,7 +44,7 @@ struct room {
 };
 
 /* The ratios that a deck is run under, in hundredths.  A deck without JR has
- * one, 1.00, that nobody gave. */
+ * one, 1.00, that nobody gave; its records say so like any others. */
 struct ratios {
     bool given;
     unsigned count;

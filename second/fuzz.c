@@ -353,8 +353,12 @@ static void check_record(const struct outcome *o, unsigned block,
         broken("a flow is over the limit");
     if (record[RECORD_KIND] < 1 || record[RECORD_KIND] > 4
         || record[RECORD_KIND + 1] != 0
-        || number(record + RECORD_INTERVAL + 2, 2) != 0)
+        || number(record + RECORD_INTERVAL + 2, 2) != 0
+        || number(record + RECORD_PLACE + 2, 4) != 0)
         broken("a record is malformed");
+    if (number(record + RECORD_RATIO, 2) != o->answer.ratios.value[ratio - 1]
+        || number(record + RECORD_PLACE, 2) != ratio)
+        broken("a record does not say its ratio");
 }
 
 /* Expects an answer with no blocks from a run with little room. */

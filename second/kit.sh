@@ -1,9 +1,16 @@
-# kit.sh, for other scripts to source: where the Rattle kit is, how a program that it linked is started, and the numbers of the refusals.
+# kit.sh, for other scripts to source: what the second program is made of, where the Rattle kit is, how a program that it linked is started,
+# and the numbers of the refusals.
 # shellcheck shell=sh disable=SC2034
+
+# The sources of the second program, in this folder
+sources='main.c engine.c cards.c mover.c'
 
 # The refusals are 1 to this number. Two of them depend on the room that is lent: cases meet them, bundles do not.
 refusals=18
 room_refusals='1 17'
+
+# The mover's own refusals
+mover_refusals='1 2 3 4'
 
 # numbers FIRST LAST: each number from the first to the last
 numbers() { awk -v i="$1" -v last="$2" 'BEGIN { for (; i <= last; i++) print i }'; }

@@ -1,17 +1,26 @@
-/* The program around the engine: reads one deck, a bundle of decks or a
- * bundle of cases from standard input and prints listings (document 01, 'A
- * deck and its listing', and document 02, CR 3) or, in the full form, all that the engine leaves in
- * the room lent to it.
+/* The program around the engine and the mover: reads one deck, a bundle of
+ * decks or a bundle of cases from standard input and prints listings (document
+ * 01, 'A deck and its listing', and document 02, CR 3) or, in the full form,
+ * all that the engine leaves in the room lent to it.  Likewise for files of
+ * records and the mover (document 02, CR 4).
  *
  *   hec1                                  one deck, its listing
  *   hec1 --bundle                         length and deck, again and again
  *   hec1 --full [--named K] [--ratio R] [--work W] [--ordinates N]
  *        [--records B]
  *   hec1 --cases                          K, R, W, N, B, length and deck, again
+ *   hec1 --mover                          direction (0 to the new form, 1 to
+ *                                         the old), room, length and file, again
+ *   hec1 --store                          what is asked, then a deck (0) or a
+ *                                         file to move (1 to the new form, 2 to
+ *                                         the old); writes bare records
  *
  * Numbers in bundles have 4 bytes, little-endian.  Exit status 0 whether decks
- * are refused or not; 2 when the input is cut short or the call is wrong. */
+ * and files are refused or not; 2 when the input is cut short, asks for what
+ * there is not or the call is wrong.  With --store the refusal goes to standard
+ * error, and so does INPUT CUT where nothing that is known is asked. */
 #include "engine.h"
+#include "mover.h"
 
 #include <stdbool.h>
 #include <stdio.h>
@@ -21,6 +30,8 @@
 enum {
     EXIT_TROUBLE = 2,
     FLOW_PER_HUNDREDTH_CFS = 600000,
+    MOVER_LIMIT = 80000,    /* bytes of a case's file, and of its room */
+    STORE_LIMIT = 1600000,  /* the same with --store */
     LISTING_LINE = 96   /* name 6, five numbers of at most 20, separators */
 };
 
@@ -108,9 +119,14 @@ static void print_ratio(uint32_t ratio)
     fwrite(line, 1, (size_t)(at - line), stdout);
 }
 
-static void print_refusal(const struct answer *answer)
+static void print_refusal(FILE *to, const struct answer *answer)
 {
-    printf("REFUSED %u %u\n", answer->refusal, answer->line);
+    fprintf(to, "REFUSED %u %u\n", answer->refusal, answer->line);
+}
+
+static void print_move_refusal(FILE *to, enum move_refusal refusal)
+{
+    fprintf(to, "REFUSED %u\n", (unsigned)refusal);
 }
 
 static void print_ordinates(const uint64_t *ordinates, size_t count)
@@ -152,7 +168,7 @@ static size_t count_not_zero(const uint64_t *words, size_t count)
 enum { RECORD_ROOM = BLOCK_LIMIT * RATIO_LIMIT * RECORD_BYTES };
 
 /* Room enough for every deck that can be accepted. */
-static void print_listing(size_t length)
+static struct answer run_roomy(size_t length, const uint8_t **record)
 {
     static uint64_t work[WORK_WORDS];
     static uint64_t ordinates[ORDINATE_LIMIT];
@@ -160,11 +176,18 @@ static void print_listing(size_t length)
     const struct room room = {
         work, WORK_WORDS, ordinates, ORDINATE_LIMIT, records, sizeof records
     };
-    const uint8_t *record = records;
-    struct answer answer = run_deck(deck, length, (struct named){ 0, 0 }, &room);
+
+    *record = records;
+    return run_deck(deck, length, (struct named){ 0, 0 }, &room);
+}
+
+static void print_listing(size_t length)
+{
+    const uint8_t *record;
+    struct answer answer = run_roomy(length, &record);
 
     if (answer.refusal != 0) {
-        print_refusal(&answer);
+        print_refusal(stdout, &answer);
         return;
     }
     for (unsigned r = 0; r < answer.ratios.count; r++) {
@@ -228,7 +251,7 @@ static void print_full(size_t length, const struct wish *wish)
     struct answer answer = run_deck(deck, length, wish->named, &room);
 
     if (answer.refusal != 0)
-        print_refusal(&answer);
+        print_refusal(stdout, &answer);
     else
         printf("%u %u %u\n", answer.nq, answer.blocks, answer.ratios.count);
     print_ordinates(room.ordinates, room.ordinate_words);
@@ -236,16 +259,79 @@ static void print_full(size_t length, const struct wish *wish)
     printf("%zu\n", count_not_zero(room.work, room.work_words));
 }
 
+enum direction {
+    TO_NEW = 0,
+    TO_OLD = 1
+};
+
+static struct moved move(enum direction direction, const uint8_t *file,
+                         size_t length, uint8_t *room, size_t room_bytes)
+{
+    if (direction == TO_NEW)
+        return move_to_new(file, length, room, room_bytes);
+    return move_to_old(file, length, room, room_bytes);
+}
+
+/* The room is filled first, as in print_full. */
+static void print_move(enum direction direction, const uint8_t *file,
+                       size_t length, size_t room_bytes)
+{
+    static uint8_t room[MOVER_LIMIT];
+
+    memset(room, 1, room_bytes);
+
+    struct moved moved = move(direction, file, length, room, room_bytes);
+
+    if (moved.refusal != NOT_REFUSED)
+        print_move_refusal(stdout, moved.refusal);
+    else
+        printf("MOVED %zu\n", moved.bytes);
+    print_bytes(room, room_bytes);
+}
+
+/* ---- Stores ----------------------------------------------------------- */
+
+static void store_deck(size_t length)
+{
+    const uint8_t *records;
+    struct answer answer = run_roomy(length, &records);
+
+    if (answer.refusal != 0)
+        print_refusal(stderr, &answer);
+    else
+        fwrite(records, RECORD_BYTES,
+               (size_t)answer.blocks * answer.ratios.count, stdout);
+}
+
+/* A file over the limit is none of the mover's refusals, so it is 0. */
+static void store_file(enum direction direction, const uint8_t *file,
+                       size_t length)
+{
+    static uint8_t room[STORE_LIMIT];
+
+    if (length > STORE_LIMIT) {
+        print_move_refusal(stderr, NOT_REFUSED);
+        return;
+    }
+
+    struct moved moved = move(direction, file, length, room, sizeof room);
+
+    if (moved.refusal != NOT_REFUSED)
+        print_move_refusal(stderr, moved.refusal);
+    else
+        fwrite(room, 1, moved.bytes, stdout);
+}
+
 /* ---- Reading ---------------------------------------------------------- */
 
-/* Reads standard input to its end.  Of a deck that is too long only the
- * first bytes are kept; the rest is read so that its writer can finish. */
-static size_t read_only_deck(void)
+/* Reads standard input to its end.  Where there are more bytes than room only
+ * the first are kept; the rest is read so that its writer can finish. */
+static size_t read_to_end(uint8_t *at, size_t room)
 {
-    size_t length = fread(deck, 1, sizeof deck, stdin);
+    size_t length = fread(at, 1, room, stdin);
     uint8_t rest[4096];
 
-    if (length == sizeof deck)
+    if (length == room)
         while (fread(rest, 1, sizeof rest, stdin) == sizeof rest)
             ;
     if (ferror(stdin))
@@ -253,7 +339,15 @@ static size_t read_only_deck(void)
     return length;
 }
 
-enum { CASE_NUMBERS = 6 };
+static size_t read_only_deck(void)
+{
+    return read_to_end(deck, sizeof deck);
+}
+
+enum {
+    CASE_NUMBERS = 6,
+    MOVE_NUMBERS = 3
+};
 
 /* Reads numbers of 4 bytes.  False: the input ends where the first would
  * begin. */
@@ -308,6 +402,45 @@ static void run_cases(void)
     }
 }
 
+static void run_mover(void)
+{
+    static uint8_t file[MOVER_LIMIT];
+    uint32_t number[MOVE_NUMBERS];
+
+    while (read_numbers(number, MOVE_NUMBERS)) {
+        uint32_t direction = number[0], room = number[1], length = number[2];
+
+        if (direction > TO_OLD || room > MOVER_LIMIT || length > MOVER_LIMIT)
+            stop("no such case");
+        if (fread(file, 1, length, stdin) < length)
+            stop("input ends inside a file");
+        print_move(direction, file, length, room);
+        puts("--");
+    }
+}
+
+/* Whoever starts this mode goes by what is said, not by a status: so an input
+ * that is cut short is told like a refusal here, not as trouble. */
+static void run_store(void)
+{
+    static uint8_t file[STORE_LIMIT + 1];   /* as with a deck */
+    uint8_t bytes[4] = { 0 };
+    size_t found = fread(bytes, 1, sizeof bytes, stdin);
+    uint64_t asked = get_number(bytes, sizeof bytes);
+
+    if (found == sizeof bytes && asked == 0) {
+        store_deck(read_only_deck());
+        return;
+    }
+
+    size_t length = read_to_end(file, sizeof file);
+
+    if (found == sizeof bytes && asked <= 2)
+        store_file(asked == 1 ? TO_NEW : TO_OLD, file, length);
+    else
+        fputs("INPUT CUT\n", stderr);
+}
+
 /* ---- The call --------------------------------------------------------- */
 
 static uint64_t option_value(const char *text)
@@ -322,21 +455,44 @@ static uint64_t option_value(const char *text)
     return value;
 }
 
+enum mode {
+    LISTING,
+    FULL,
+    BUNDLE,
+    CASES,
+    MOVER,
+    STORE,
+    MODES
+};
+
+static const char *const mode_word[MODES] = {
+    "", "--full", "--bundle", "--cases", "--mover", "--store"
+};
+
+/* The mode that a word asks for; LISTING has no word. */
+static enum mode mode_of(const char *word)
+{
+    for (unsigned mode = FULL; mode < MODES; mode++)
+        if (strcmp(word, mode_word[mode]) == 0)
+            return mode;
+    return LISTING;
+}
+
 int main(int argc, char **argv)
 {
     struct wish wish = {
         { 0, 0 }, WORK_WORDS, ORDINATE_LIMIT, RECORD_ROOM
     };
-    bool full = false, bundle = false, cases = false;
+    enum mode mode = LISTING;
 
     for (int k = 1; k < argc; k++) {
-        if (strcmp(argv[k], "--full") == 0)
-            full = true;
-        else if (strcmp(argv[k], "--bundle") == 0)
-            bundle = true;
-        else if (strcmp(argv[k], "--cases") == 0)
-            cases = true;
-        else if (strcmp(argv[k], "--named") == 0)
+        enum mode asked = mode_of(argv[k]);
+
+        if (asked != LISTING) {
+            if (mode != LISTING && mode != asked)
+                stop("one mode at a time");
+            mode = asked;
+        } else if (strcmp(argv[k], "--named") == 0)
             wish.named.block = option_value(argv[++k]);
         else if (strcmp(argv[k], "--ratio") == 0)
             wish.named.ratio = option_value(argv[++k]);
@@ -349,17 +505,27 @@ int main(int argc, char **argv)
         else
             stop("unknown option");
     }
-    if (full + bundle + cases > 1)
-        stop("--full, --bundle and --cases exclude one another");
 
-    if (bundle)
+    switch (mode) {
+    case BUNDLE:
         run_bundle();
-    else if (cases)
+        break;
+    case CASES:
         run_cases();
-    else if (full)
+        break;
+    case MOVER:
+        run_mover();
+        break;
+    case STORE:
+        run_store();
+        break;
+    case FULL:
         print_full(read_only_deck(), &wish);
-    else
+        break;
+    default:
         print_listing(read_only_deck());
+        break;
+    }
 
     if (fflush(stdout) != 0 || ferror(stdout))
         stop("cannot write");

@@ -23,10 +23,13 @@ build() {
         exit 1
     }
 }
-build "$prog" "$here/main.c" "$here/engine.c" "$here/cards.c"
-build "$fuzz" "$here/fuzz.c" "$here/engine.c" "$here/cards.c"
-build "$losses" "$here/losses.c" "$here/cards.c" "$here/bundle.c"
-build "$ratios" "$here/ratios.c" "$here/cards.c" "$here/bundle.c"
+cd "$here" || exit 1
+. ./kit.sh || exit 1
+# shellcheck disable=SC2086,SC2154
+build "$prog" $sources
+build "$fuzz" fuzz.c engine.c cards.c mover.c
+build "$losses" losses.c cards.c bundle.c
+build "$ratios" ratios.c cards.c bundle.c
 
 # Nothing is looked for that was not freed: each run ends at once, and on some
 # machines the search takes seconds a run.
@@ -168,22 +171,25 @@ refused 15 4 'ID X\n*FREE\nIT 60,,,4\nZZ\n'
 # without a JR; with one they stand among the ratios
 
 small="${free}KK A\nQI 1\nZZ\n"
-rec_a=412020202020020000000000008793030000000001000000
-rec_a+=0087930300000000
+whole=6400010000000000      # ratio 1.00, the first place, and zeros
+part_a=412020202020020000000000008793030000000001000000
+part_a+=0087930300000000    # what a record was before it said its ratio
+rec_a=$part_a$whole
 zeros() { times "$1" 00; }
 
-full "4 1 1\n60000000 0 0 0 0 0\n$rec_a$(zeros 8)\n0\n" "$small" --ordinates 6 --records 40
-full "4 1 1\n60000000 0 0 0\n$rec_a\n0\n" "$small" --ordinates 4 --records 32 --named 1
-full "4 1 1\n60000000 0 0 0\n$rec_a\n0\n" "$small" --ordinates 4 --records 32 --work 7001
-full "4 1 1\n60000000 0 0 0$(times 296 ' 0')\n$rec_a$(zeros 57568)\n0\n" "$small"
-full "REFUSED 17 0\n0 0 0\n$(zeros 32)\n0\n" "$small" --ordinates 3 --records 32
-full "REFUSED 17 0\n0 0 0 0\n$(zeros 31)\n0\n" "$small" --ordinates 4 --records 31
-full "REFUSED 17 0\n0 0 0 0\n$(zeros 32)\n0\n" "$small" --ordinates 4 --records 32 --named 2
-full "REFUSED 17 0\n0 0 0 0\n$(zeros 64)\n0\n" "$small" --ordinates 4 --records 64 --named 2
+full "4 1 1\n60000000 0 0 0 0 0\n$rec_a$(zeros 8)\n0\n" "$small" --ordinates 6 --records 48
+full "4 1 1\n60000000 0 0 0\n$rec_a\n0\n" "$small" --ordinates 4 --records 40 --named 1
+full "4 1 1\n60000000 0 0 0\n$rec_a\n0\n" "$small" --ordinates 4 --records 40 --work 7001
+full "4 1 1\n60000000 0 0 0$(times 296 ' 0')\n$rec_a$(zeros 71960)\n0\n" "$small"
+full "REFUSED 17 0\n0 0 0\n$(zeros 40)\n0\n" "$small" --ordinates 3 --records 40
+full "REFUSED 17 0\n0 0 0 0\n$(zeros 39)\n0\n" "$small" --ordinates 4 --records 39
+full "REFUSED 17 0\n0 0 0 0\n$(zeros 32)\n0\n" "$small" --ordinates 4 --records 32     # the old 32 a block
+full "REFUSED 17 0\n0 0 0 0\n$(zeros 40)\n0\n" "$small" --ordinates 4 --records 40 --named 2
+full "REFUSED 17 0\n0 0 0 0\n$(zeros 80)\n0\n" "$small" --ordinates 4 --records 80 --named 2
 full "REFUSED 17 0\n0 0 0 0\n\n0\n" "$small" --ordinates 4 --records 0 --named 4294967295
-full "REFUSED 17 0\n\n$(zeros 32)\n0\n" "$small" --ordinates 0 --records 32
+full "REFUSED 17 0\n\n$(zeros 40)\n0\n" "$small" --ordinates 0 --records 40
 full "REFUSED 17 0\n\n\n0\n" "$small" --ordinates 0 --records 0
-full "REFUSED 1 0\n0 0 0 0\n$(zeros 32)\n0\n" "$small" --ordinates 4 --records 32 --work 5999
+full "REFUSED 1 0\n0 0 0 0\n$(zeros 40)\n0\n" "$small" --ordinates 4 --records 40 --work 5999
 full "REFUSED 1 0\n0\n00\n0\n" "$small" --ordinates 1 --records 1 --work 0
 full "REFUSED 1 0\n0\n00\n0\n" '\xff' --ordinates 1 --records 1 --work 5999
 full "REFUSED 1 0\n0\n00\n0\n" "$(times 60001 x)" --ordinates 1 --records 1 --work 5999
@@ -191,18 +197,19 @@ full "REFUSED 2 0\n0\n00\n0\n" "$(times 60001 x)" --ordinates 1 --records 1 --wo
 # other refusals come before 17; a named block is never looked at before it
 full "REFUSED 16 0\n\n\n0\n" "${free}KK A\nQI 1\n" --ordinates 0 --records 0 --named 9
 full "REFUSED 15 3\n\n\n0\n" "${free}ZZ\n" --ordinates 0 --records 0 --named 9
-full "REFUSED 4 6\n0 0 0 0\n$(zeros 32)\n0\n" "${free}KK A\nQI 1\nKK B\nXX\n" --ordinates 4 --records 32 --named 1
-full "REFUSED 9 6\n0 0 0 0 0\n$(zeros 33)\n0\n" "${free}KK A\nQI 1\nKK B\nZZ\n" --ordinates 5 --records 33 --named 1
-full "REFUSED 13 10\n0 0 0 0 0\n$(zeros 70)\n0\n" "${free}KK A\nQI 1\nKK B\nBA 1\nPI 20\nLU\nUI 99999\nZZ\n" --ordinates 5 --records 70 --named 1
+full "REFUSED 4 6\n0 0 0 0\n$(zeros 40)\n0\n" "${free}KK A\nQI 1\nKK B\nXX\n" --ordinates 4 --records 40 --named 1
+full "REFUSED 9 6\n0 0 0 0 0\n$(zeros 41)\n0\n" "${free}KK A\nQI 1\nKK B\nZZ\n" --ordinates 5 --records 41 --named 1
+full "REFUSED 13 10\n0 0 0 0 0\n$(zeros 86)\n0\n" "${free}KK A\nQI 1\nKK B\nBA 1\nPI 20\nLU\nUI 99999\nZZ\n" --ordinates 5 --records 86 --named 1
 # the records of the paper's deck, in full; the third byte group is the area
-rec_up=55502020202001009600000000 rec_up=${rec_up}0e27070000000002000000007a030a00000000
-rec_riv=524956202020040096000000187ce4040000000003000000a773360900000000
-rec_side=534944452020020000000000000e27070000000002000000002a751500000000
-rec_out=4f5554202020030096000000188a0b0c0000000003000000a79dab1e00000000
-full "4 4 1\n60000000 147692307 202082840 104788348\n$rec_up$rec_riv$rec_side$rec_out\n0\n" "$pond" --ordinates 4 --records 128
-full "4 4 1\n0 27692307 82082840 44788348 0\n$rec_up$rec_riv$rec_side$rec_out$(zeros 3)\n0\n" "$pond" --ordinates 5 --records 131 --named 2
-full "REFUSED 17 0\n0 0 0 0\n$(zeros 127)\n0\n" "$pond" --ordinates 4 --records 127 --named 2
-full "REFUSED 17 0\n0 0 0 0\n$(zeros 128)\n0\n" "$pond" --ordinates 4 --records 128 --named 5
+rec_up=55502020202001009600000000 rec_up=${rec_up}0e27070000000002000000007a030a00000000$whole
+rec_riv=524956202020040096000000187ce4040000000003000000a773360900000000$whole
+rec_side=534944452020020000000000000e27070000000002000000002a751500000000$whole
+rec_out=4f5554202020030096000000188a0b0c0000000003000000a79dab1e00000000$whole
+full "4 4 1\n60000000 147692307 202082840 104788348\n$rec_up$rec_riv$rec_side$rec_out\n0\n" "$pond" --ordinates 4 --records 160
+full "4 4 1\n0 27692307 82082840 44788348 0\n$rec_up$rec_riv$rec_side$rec_out$(zeros 3)\n0\n" "$pond" --ordinates 5 --records 163 --named 2
+full "REFUSED 17 0\n0 0 0 0\n$(zeros 159)\n0\n" "$pond" --ordinates 4 --records 159 --named 2
+full "REFUSED 17 0\n0 0 0 0\n$(zeros 128)\n0\n" "$pond" --ordinates 4 --records 128
+full "REFUSED 17 0\n0 0 0 0\n$(zeros 160)\n0\n" "$pond" --ordinates 4 --records 160 --named 5
 # without --full the rooms are enough whatever the options say
 check 'listing with room options' "$(printf '%bstatus 0, silent' "$one")" \
     "$(printf '%b' "$small" | run --ordinates 0 --records 0 --work 0 --named 7)"
@@ -645,8 +652,8 @@ refused 14 403 "$free$inflow${routed}KK S"
 refused 6 403 "$free$inflow${routed}KK ,\n"         # 6 before 14
 refused 9 402 "$free$inflow${routed%'RM 1,1,.2\n'}KK S\n"           # 9 before 14
 refused 12 403 "$free$inflow${routed%'1,1,.2\n'}1,.5,.2\nKK S\n"    # 12 before 14
-full "REFUSED 17 0\n0 0 0 0\n$(zeros 6399)\n0\n" "$free$inflow${routed}ZZ\n" --ordinates 4 --records 6399 --named 200
-full "REFUSED 17 0\n0 0 0 0\n$(zeros 6400)\n0\n" "$free$inflow${routed}ZZ\n" --ordinates 4 --records 6400 --named 201
+full "REFUSED 17 0\n0 0 0 0\n$(zeros 7999)\n0\n" "$free$inflow${routed}ZZ\n" --ordinates 4 --records 7999 --named 200
+full "REFUSED 17 0\n0 0 0 0\n$(zeros 8000)\n0\n" "$free$inflow${routed}ZZ\n" --ordinates 4 --records 8000 --named 201
 refused 15 3 "${free}ZZ\n"
 refused 15 3 "${free}ZZ"
 refused 15 7 "${two}ZZ\n"
@@ -825,10 +832,10 @@ dry='BA 1\nPB 1\nPI 0\nLU\nUI 1\n'                  # 5 lines
 wet=${dry/PI 0/PI 1}
 refused 18 9 "${free}KK A\n${dry}KK B\nXX\n"
 refused 18 10 "${free}KK A\nPI\nUI 1\nPI 0\nBA 1\nPB .0001\nLU\nKK B\n"
-full "REFUSED 18 9\n0 0 0 0 0\n$(zeros 33)\n0\n" "${free}KK A\n${dry}ZZ\n" --ordinates 5 --records 33
+full "REFUSED 18 9\n0 0 0 0 0\n$(zeros 41)\n0\n" "${free}KK A\n${dry}ZZ\n" --ordinates 5 --records 41
 full "REFUSED 18 9\n\n\n0\n" "${free}KK A\n${dry}ZZ\n" --ordinates 0 --records 0 --named 9
 full "REFUSED 1 0\n0\n00\n0\n" "${free}KK A\n${dry}ZZ\n" --ordinates 1 --records 1 --work 5999
-full "REFUSED 17 0\n0 0 0\n$(zeros 32)\n0\n" "${free}KK A\n${wet}ZZ\n" --ordinates 3 --records 32
+full "REFUSED 17 0\n0 0 0\n$(zeros 40)\n0\n" "${free}KK A\n${wet}ZZ\n" --ordinates 3 --records 40
 for line in BA LU UI; do                            # 9 before 18
     text=${dry/"$line"/KM}
     refused 9 9 "${free}KK A\n${text}ZZ\n"
@@ -1330,32 +1337,35 @@ lists 'RATIO 2.00\nA 2 0.00 1.00 1 60000000\nB 1 1.00 2.00 1 120000000\nC 3 1.00
 # block names that look like other lines
 lists 'RATIO 0.07\nRATIO 2 0.00 1.00 1 60000000\nEND 1\n' "${free}JR PREC,.07\nKK RATIO\nQI 1\nZZ\n"
 
-# rooms: records ratio by ratio, 32 bytes a block and ratio, the named ratio
+# rooms: records ratio by ratio, 40 bytes a block and ratio, the named ratio
 inch="${free}JR PREC,1,2\nKK A\nBA 1\nPI 1\nLU\nUI 1\nZZ\n"
-rec_one=412020202020010064000000008793030000000001000000 rec_one+=0087930300000000
-rec_two=412020202020010064000000000e27070000000001000000 rec_two+=000e270700000000
-full "4 1 2\n120000000 0 0 0\n$rec_one$rec_two\n0\n" "$inch" --ordinates 4 --records 64
-full "4 1 2\n60000000 0 0 0\n$rec_one$rec_two\n0\n" "$inch" --ordinates 4 --records 64 --ratio 1
-full "4 1 2\n120000000 0 0 0 0\n$rec_one${rec_two}00\n0\n" "$inch" --ordinates 5 --records 65 --ratio 2 --named 1
-full "4 1 2\n60000000 0 0 0\n$rec_two$rec_one\n0\n" "${inch/1,2/2,1}" --ordinates 4 --records 64
-full "4 1 2\n120000000 0 0 0$(times 296 ' 0')\n$rec_one$rec_two$(zeros 57536)\n0\n" "$inch"
-full "REFUSED 17 0\n0 0 0 0\n$(zeros 63)\n0\n" "$inch" --ordinates 4 --records 63
-full "REFUSED 17 0\n0 0 0 0\n$(zeros 32)\n0\n" "$inch" --ordinates 4 --records 32 --ratio 1
-full "REFUSED 17 0\n0 0 0 0\n$(zeros 64)\n0\n" "$inch" --ordinates 4 --records 64 --ratio 3
-full "REFUSED 17 0\n0 0 0 0\n$(zeros 96)\n0\n" "$inch" --ordinates 4 --records 96 --ratio 3
-full "REFUSED 17 0\n0 0 0 0\n$(zeros 64)\n0\n" "$inch" --ordinates 4 --records 64 --named 2 --ratio 1
-full "REFUSED 17 0\n0 0 0\n$(zeros 64)\n0\n" "$inch" --ordinates 3 --records 64 --ratio 1
+part_one=412020202020010064000000008793030000000001000000 part_one+=0087930300000000
+part_two=412020202020010064000000000e27070000000001000000 part_two+=000e270700000000
+rec_one=$part_one$whole                     # 1.00, the first
+rec_two=${part_two}c800020000000000         # 2.00, the second
+full "4 1 2\n120000000 0 0 0\n$rec_one$rec_two\n0\n" "$inch" --ordinates 4 --records 80
+full "4 1 2\n60000000 0 0 0\n$rec_one$rec_two\n0\n" "$inch" --ordinates 4 --records 80 --ratio 1
+full "4 1 2\n120000000 0 0 0 0\n$rec_one${rec_two}00\n0\n" "$inch" --ordinates 5 --records 81 --ratio 2 --named 1
+full "4 1 2\n60000000 0 0 0\n${part_two}c800010000000000${part_one}6400020000000000\n0\n" "${inch/1,2/2,1}" --ordinates 4 --records 80
+full "4 1 2\n120000000 0 0 0$(times 296 ' 0')\n$rec_one$rec_two$(zeros 71920)\n0\n" "$inch"
+full "REFUSED 17 0\n0 0 0 0\n$(zeros 79)\n0\n" "$inch" --ordinates 4 --records 79
+full "REFUSED 17 0\n0 0 0 0\n$(zeros 64)\n0\n" "$inch" --ordinates 4 --records 64      # the old 32 a block and ratio
+full "REFUSED 17 0\n0 0 0 0\n$(zeros 40)\n0\n" "$inch" --ordinates 4 --records 40 --ratio 1
+full "REFUSED 17 0\n0 0 0 0\n$(zeros 80)\n0\n" "$inch" --ordinates 4 --records 80 --ratio 3
+full "REFUSED 17 0\n0 0 0 0\n$(zeros 120)\n0\n" "$inch" --ordinates 4 --records 120 --ratio 3
+full "REFUSED 17 0\n0 0 0 0\n$(zeros 80)\n0\n" "$inch" --ordinates 4 --records 80 --named 2 --ratio 1
+full "REFUSED 17 0\n0 0 0\n$(zeros 80)\n0\n" "$inch" --ordinates 3 --records 80 --ratio 1
 full "REFUSED 17 0\n0 0 0 0\n\n0\n" "$inch" --ordinates 4 --records 0 --ratio 4294967295
 full "REFUSED 1 0\n0\n00\n0\n" "$inch" --ordinates 1 --records 1 --work 5999 --ratio 9
-full "4 1 1\n60000000 0 0 0\n$rec_a\n0\n" "$small" --ordinates 4 --records 32 --ratio 1    # no JR: one ratio
-full "REFUSED 17 0\n0 0 0 0\n$(zeros 32)\n0\n" "$small" --ordinates 4 --records 32 --ratio 2
-full "4 1 1\n60000000 0 0 0\n$rec_a\n0\n" "$(jr PREC,3)" --ordinates 4 --records 32
-full "4 1 3\n60000000 0 0 0\n$rec_a$rec_a$rec_a\n0\n" "$(jr PREC,3,2,1)" --ordinates 4 --records 96 --named 1 --ratio 2
-full "REFUSED 17 0\n0 0 0 0\n$(zeros 95)\n0\n" "$(jr PREC,3,2,1)" --ordinates 4 --records 95
+full "4 1 1\n60000000 0 0 0\n$rec_a\n0\n" "$small" --ordinates 4 --records 40 --ratio 1    # no JR: one ratio
+full "REFUSED 17 0\n0 0 0 0\n$(zeros 40)\n0\n" "$small" --ordinates 4 --records 40 --ratio 2
+full "4 1 1\n60000000 0 0 0\n${part_a}2c01010000000000\n0\n" "$(jr PREC,3)" --ordinates 4 --records 40
+full "4 1 3\n60000000 0 0 0\n${part_a}2c01010000000000${part_a}c800020000000000${part_a}6400030000000000\n0\n" "$(jr PREC,3,2,1)" --ordinates 4 --records 120 --named 1 --ratio 2
+full "REFUSED 17 0\n0 0 0 0\n$(zeros 119)\n0\n" "$(jr PREC,3,2,1)" --ordinates 4 --records 119
 full "REFUSED 15 4\n\n\n0\n" "${free}JR PREC,1\nZZ\n" --ordinates 0 --records 0 --ratio 9
 got=$(printf '%b' "${free}JR PREC,1,1,1,1,1,1,1,1,1\n$inflow${routed}ZZ\n" | run | grep -c '^R 4 ')
 check 'nine times 200 blocks' 1791 "$got"
-got=$(printf '%b' "${free}JR PREC,1,1,1,1,1,1,1,1,1\n$inflow${routed}ZZ\n" | run --full --ordinates 4 --records 57599 | head -n 1)
+got=$(printf '%b' "${free}JR PREC,1,1,1,1,1,1,1,1,1\n$inflow${routed}ZZ\n" | run --full --ordinates 4 --records 71999 | head -n 1)
 check 'a byte less than nine times 200 records' 'REFUSED 17 0' "$got"
 got=$(printf '%b' "${free}JR PREC,1,1,1,1,1,1,1,1,1\n$inflow${routed}ZZ\n" | run --full --ordinates 4 | head -n 1)
 check 'nine times 200 records' '4 200 9' "$got"
@@ -1372,7 +1382,7 @@ refused 15 15 "$(later .99)"                        # 99,019.80: two are held
 refused 13 15 "$(later .99,1)"                      # 13 before 15 of that line
 refused 13 15 "$(later 1,.99)"
 refused 13 10 "$(later .99,2)"
-full "REFUSED 13 10\n0 0 0 0\n$(zeros 64)\n0\n" "$(later 1,2)" --ordinates 4 --records 64 --named 1 --ratio 1
+full "REFUSED 13 10\n0 0 0 0\n$(zeros 80)\n0\n" "$(later 1,2)" --ordinates 4 --records 80 --named 1 --ratio 1
 full "REFUSED 13 10\n\n\n0\n" "$(later 1,2)" --ordinates 0 --records 0 --named 9 --ratio 9
 # what stands behind that line is hidden, by whatever ratio
 gate='KK A\nBA 1\nPB 100\nPI 1\nLU\nUI 600\nKK B\n'  # 6 lines and the next KK
@@ -1456,12 +1466,12 @@ case_of() { # block, ratio, work words, ordinates, record bytes, deck
     printf '%s%s%s%s%s%s' "$(le4 "$1")" "$(le4 "$2")" "$(le4 "$3")" "$(le4 "$4")" "$(le4 "$5")" "$(sized "$6")"
 }
 bundle --cases '' "$ok" ''
-bundle --cases "4 1 1\n60000000 0 0 0 0\n${rec_a}00\n0\n--\n" "$ok" "$(case_of 0 0 6000 5 33 "$small")"
-bundle --cases "4 1 2\n60000000 0 0 0\n$rec_one$rec_two\n0\n--\nREFUSED 17 0\n0 0 0 0\n$(zeros 64)\n0\n--\nREFUSED 17 0\n0 0 0 0\n$(zeros 63)\n0\n--\n" "$ok" \
-    "$(case_of 1 1 6000 4 64 "$inch")$(case_of 1 3 6000 4 64 "$inch")$(case_of 1 0 6000 4 63 "$inch")"
-bundle --cases "4 1 2\n120000000 0 0 0\n$rec_one$rec_two$(zeros 71936)\n0\n--\n" "$ok" "$(case_of 0 0 6000 4 72000 "$inch")"
+bundle --cases "4 1 1\n60000000 0 0 0 0\n${rec_a}00\n0\n--\n" "$ok" "$(case_of 0 0 6000 5 41 "$small")"
+bundle --cases "4 1 2\n60000000 0 0 0\n$rec_one$rec_two\n0\n--\nREFUSED 17 0\n0 0 0 0\n$(zeros 80)\n0\n--\nREFUSED 17 0\n0 0 0 0\n$(zeros 79)\n0\n--\n" "$ok" \
+    "$(case_of 1 1 6000 4 80 "$inch")$(case_of 1 3 6000 4 80 "$inch")$(case_of 1 0 6000 4 79 "$inch")"
+bundle --cases "4 1 2\n120000000 0 0 0\n$rec_one$rec_two$(zeros 71920)\n0\n--\n" "$ok" "$(case_of 0 0 6000 4 72000 "$inch")"
 bundle --cases "4 4 1\n0 27692307 82082840 44788348\n$rec_up$rec_riv$rec_side$rec_out\n0\n--\nREFUSED 1 0\n0\n00\n0\n--\nREFUSED 17 0\n\n\n0\n--\nREFUSED 2 0\n0 0\n0000\n0\n--\n4 1 1\n60000000 0 0 0\n$rec_a\n0\n--\n" "$ok" \
-    "$(case_of 2 1 6000 4 128 "$pond")$(case_of 0 0 5999 1 1 "$pond")$(case_of 0 0 9000 0 0 "$pond")$(case_of 0 0 6000 2 2 "$long")$(case_of 1 0 6000 4 32 "$small")"
+    "$(case_of 2 1 6000 4 160 "$pond")$(case_of 0 0 5999 1 1 "$pond")$(case_of 0 0 9000 0 0 "$pond")$(case_of 0 0 6000 2 2 "$long")$(case_of 1 0 6000 4 40 "$small")"
 bundle --cases '' '2, said' "$(le4 1)"
 bundle --cases '' '2, said' "$(le4 1)$(le4 0)$(le4 6000)$(le4 1)$(le4 1)"
 bundle --cases '' '2, said' "$(le4 1)$(le4 0)$(le4 6000)$(le4 1)$(le4 1)$(le4 3)ZZ"
