@@ -1,5 +1,6 @@
-/* How the counters read a bundle: what hec1 --bundle reads, from standard
- * input. */
+/* How the counters read their input: what hec1 --bundle or hec1 --mover reads,
+ * from standard input.  An input that is cut short ends the program with status
+ * 2; program is its name. */
 #ifndef BUNDLE_H
 #define BUNDLE_H
 
@@ -9,8 +10,21 @@
 
 /* Reads a deck behind its length, into DECK_LIMIT bytes.  False at the end of
  * input.  Of a deck that is too long the parts are read over one another: it
- * is refused unread.  An input that is cut short ends the program with status
- * 2; program is its name. */
+ * is refused unread. */
 bool next_deck(const char *program, uint8_t *deck, size_t *length);
+
+enum { FILE_LIMIT = 80000 };    /* bytes of a file to move, and of its room */
+
+/* A case of the mover. */
+struct move_case {
+    bool to_old;
+    size_t room;
+    size_t length;
+    uint8_t file[FILE_LIMIT];
+};
+
+/* False at the end of input.  A case that hec1 would not take ends the program
+ * with status 2 as well. */
+bool next_move(const char *program, struct move_case *move);
 
 #endif

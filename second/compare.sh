@@ -1,13 +1,16 @@
 #!/bin/sh
-# compare.sh [--program PROGRAM] [SEED [BUNDLE [CASES [PAIRS]]]]
+# compare.sh [--program PROGRAM] [SEED [BUNDLE [CASES [PAIRS [MOVES]]]]]
 # Runs the proved programs and the second program on the same decks and compares what they print, byte by byte.
-# By default 20,000 decks of all sorts, 2,000 cases with rooms of all sizes, 2,000 pairs of decks that draw one
-# network (which must also answer as such), and a few decks, one at a time, on both sides of 60,000 bytes, one of them
-# with the most blocks and ratios that there can be.
-# Fails too when a refusal is missing: one that depends on rooms in the cases, any other in the bundle.
-# The last line is 'N passed, M failed', where each deck, case and pair counts as one; the exit status agrees with it.
+# By default 20,000 decks of all sorts, 2,000 cases with rooms of all sizes, 4,000 files of records to move, 2,000 pairs
+# of decks that draw one network (which must also answer as such), and a few decks, one at a time, on both sides of
+# 60,000 bytes, one of them with the most blocks and ratios that there can be.
+# Fails too when a refusal is missing: one that depends on rooms in the cases, any other in the bundle, one of the mover
+# in the moves.
+# The last line is 'N passed, M failed', where each deck, case, file and pair counts as one; the exit status agrees
+# with it.
 #
-# --program, to try this script itself: a program to start in place of the proved ones (with --bundle or --cases).
+# --program, to try this script itself: a program to start in place of the proved ones (with --bundle, --cases or
+# --mover).
 set -u
 root=$(CDPATH="" cd -- "$(dirname -- "$0")/.." && pwd -P) || exit 2
 . "$root/second/kit.sh" || exit 2
@@ -20,6 +23,7 @@ seed=${1:-1}
 bundle=${2:-20000}
 cases=${3:-2000}
 pairs=${4:-2000}
+moves=${5:-4000}
 second=$root/target/second/hec1
 decks=$root/target/second/decks
 work=$(mktemp -d) || exit 2
@@ -40,7 +44,7 @@ sh "$root/second/build-decks.sh" || die "the deck writer was not built"
 
 if [ -z "$program" ]; then
     find_kit || die "$no_kit"
-    (cd "$root" && "$rt" check hec1 bundle rooms) >"$work/log" 2>&1 ||
+    (cd "$root" && "$rt" check hec1 bundle rooms mover) >"$work/log" 2>&1 ||
         { tail -n 5 "$work/log" >&2; die "the programs were not proved and built"; }
 fi
 
@@ -52,6 +56,7 @@ proved() {
         case $1 in
         bundle) "$program" --bundle ;;
         rooms) "$program" --cases ;;
+        mover) "$program" --mover ;;
         *) "$program" ;;
         esac
     fi
@@ -75,7 +80,7 @@ compare() {
             n++
             if (mine == theirs) same++
             else report(what " " n ": " first ", and the second program: " substr(theirs, 1, index(theirs, "\n") - 1))
-            if (first ~ /^REFUSED [0-9]+ [0-9]+$/) { split(first, f, " "); refused[f[2]]++ }
+            if (first ~ /^REFUSED [0-9]+( [0-9]+)?$/) { split(first, f, " "); refused[f[2]]++ }
             else accepted++
             mine = first = ""
         }
@@ -110,7 +115,7 @@ both() {
     "$second" ${2:+"$2"} <"$work/decks" >"$work/second" || failed=$((failed + 1))
 }
 
-# ---- bundle, cases, pairs
+# ---- bundle, cases, moves, pairs
 
 "$decks" bundle "$seed" "$bundle" >"$work/decks" || die "the deck writer failed"
 both bundle --bundle
@@ -119,6 +124,10 @@ compare bundle "$bundle" "$(deck_refusals)"
 "$decks" cases "$seed" "$cases" >"$work/decks" || die "the deck writer failed"
 both rooms --cases
 compare cases "$cases" "$room_refusals"
+
+"$decks" moves "$seed" "$moves" >"$work/decks" || die "the deck writer failed"
+both mover --mover
+compare moves "$moves" "$mover_refusals"
 
 "$decks" pairs "$seed" "$pairs" >"$work/decks" || die "the deck writer failed"
 both bundle --bundle

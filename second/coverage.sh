@@ -1,14 +1,16 @@
 #!/bin/sh
-# coverage.sh [--program PROGRAM] [SEED [BUNDLE [CASES [PAIRS]]]]
-# Writes decks, runs them through the second program and counts the answers.
+# coverage.sh [--program PROGRAM] [SEED [BUNDLE [CASES [PAIRS [MOVES]]]]]
+# Writes decks and files of records, runs them through the second program and
+# counts the answers.
 # The program is target/second/hec1, built here, or the one named with --program.
 # Fails when a refusal is missing, one that depends on rooms in the cases, any
-# other in the bundle, when the bundle's accepted decks lack a way in which an
-# initial loss is filled or do not tell a wrong rule of loss from the right one,
-# when they lack a sort of JR or do not tell a wrong rule of ratios from the right
-# one, when none of its refused decks depends on the first or on the last ratio
-# being looked at, when a sound or a long deck is refused, or when a pair is
-# violated.
+# other in the bundle, one of the mover in the moves, when the bundle's accepted
+# decks lack a way in which an initial loss is filled or do not tell a wrong rule
+# of loss from the right one, when they lack a sort of JR or do not tell a wrong
+# rule of ratios from the right one, when none of its refused decks depends on the
+# first or on the last ratio being looked at, when the moves lack a sort of file or
+# room, or faults beside one another, or do not tell a wrong rule of the mover from
+# the right one, when a sound or a long deck is refused, or when a pair is violated.
 set -u
 root=$(CDPATH= cd -- "$(dirname -- "$0")/.." && pwd)
 . "$root/second/kit.sh" || exit 2
@@ -21,6 +23,7 @@ seed=${1:-1}
 bundle=${2:-20000}
 cases=${3:-2000}
 pairs=${4:-2000}
+moves=${5:-4000}
 decks=$root/target/second/decks
 sh "$root/second/build-decks.sh" || exit 2
 if [ -z "$hec1" ]; then
@@ -48,7 +51,7 @@ count() {
     awk -v what="$1" -v need="$2" -v last="$refusals" '
         first == "" { first = $0 == "" ? " " : $0 }
         $0 == "--" {
-            if (first ~ /^REFUSED [0-9]+ [0-9]+$/) {
+            if (first ~ /^REFUSED [0-9]+( [0-9]+)?$/) {
                 split(first, f, " ")
                 r[f[2]]++
             } else
@@ -79,6 +82,11 @@ check "$root/target/second/ratios" < "$work/decks"
 "$decks" cases "$seed" "$cases" > "$work/decks"
 "$hec1" --cases < "$work/decks" > "$work/out" || failed=$((failed + 1))
 check count cases "$room_refusals" < "$work/out"
+
+"$decks" moves "$seed" "$moves" > "$work/decks"
+"$hec1" --mover < "$work/decks" > "$work/out" || failed=$((failed + 1))
+check count moves "$mover_refusals" < "$work/out"
+check "$root/target/second/moves" < "$work/decks"
 
 "$decks" sound "$seed" "$pairs" > "$work/decks"
 "$hec1" --bundle < "$work/decks" > "$work/out" || failed=$((failed + 1))

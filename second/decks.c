@@ -1,5 +1,6 @@
 /* The deck writer: seeded test decks for the engine of document 01, with the
-   storm totals, losses and ratios of document 02, CR 1 to CR 3. */
+   storm totals, losses and ratios of document 02, CR 1 to CR 3, and files of
+   records for the mover of CR 4. */
 #include <stdio.h>
 #include <stdlib.h>
 #include <string.h>
@@ -19,6 +20,8 @@ static const char help[] =
     "decks cases SEED COUNT           COUNT cases: six 4-byte little-endian numbers (named block, named\n"
     "                                 ratio, work words, ordinate words, record bytes, deck length) and the\n"
     "                                 deck\n"
+    "decks moves SEED COUNT           COUNT cases of the mover: three 4-byte little-endian numbers (direction,\n"
+    "                                 0 to the new form and 1 to the old; room; length) and the file\n"
     "decks pairs SEED COUNT           COUNT pairs of decks, as in a bundle; each pair draws one network\n"
     "                                 in two orders and two manners of writing\n"
     "decks sound SEED COUNT           COUNT lawful decks, as in a bundle\n"
@@ -278,7 +281,7 @@ static void cases(uint64_t seed, int count)
         n = deck_bytes(&deck, bytes);
         if (r == 13)
             n = degenerate(bytes);
-        int ratios = net.njr > 0 ? net.njr : 1, exact = 32 * net.nb * ratios;
+        int ratios = net.njr > 0 ? net.njr : 1, exact = 40 * net.nb * ratios;
         uint32_t named, ratio, work, ord, rec;
         r = rnd(100);
         named = r < 35 ? 0u : r < 80 ? (uint32_t)between(1, net.nb) : r < 88 ? (uint32_t)net.nb
@@ -294,15 +297,33 @@ static void cases(uint64_t seed, int count)
             : r < 95 ? (uint32_t)net.nq - 1 : r < 97 ? 0u : (uint32_t)rnd(net.nq);
         r = rnd(100);
         rec = r < 50 ? (uint32_t)exact : r < 62 ? (uint32_t)exact + 1
-            : r < 84 ? (uint32_t)between(exact, exact + (pct(80) ? 2000 : 72000 - exact))
-            : r < 90 ? (uint32_t)exact - 1 : r < 94 ? (uint32_t)(32 * net.nb)   /* enough for one ratio */
+            : r < 84 ? (uint32_t)between(exact, pct(80) ? exact + 2000 : LIMIT_RECORDS)
+            : r < 89 ? (uint32_t)exact - 1 : r < 92 ? (uint32_t)(40 * net.nb)   /* enough for one ratio */
+            : r < 95 ? (uint32_t)(32 * net.nb * ratios)                         /* enough for the old form */
             : r < 96 ? 0u : (uint32_t)rnd(exact);
+        if (rec > LIMIT_RECORDS)
+            rec = LIMIT_RECORDS;
         number4(named);
         number4(ratio);
         number4(work);
         number4(ord);
         number4(rec);
         out_deck(n);
+    }
+}
+
+/* ---- cases of the mover ---- */
+
+static void moves(uint64_t seed, int count)
+{
+    int i;
+    Move m;
+    for (i = 0; i < count; i++) {
+        rng_seed(seed, ((uint64_t)6 << 40) + (uint64_t)i);
+        move_case(&m, bytes);
+        number4((uint32_t)m.to_old);
+        number4((uint32_t)m.room);
+        out_deck(m.length);
     }
 }
 
@@ -661,6 +682,8 @@ int main(int argc, char **argv)
             only_sound(seed, count);
         } else if (!strcmp(what, "cases")) {
             cases(seed, count);
+        } else if (!strcmp(what, "moves")) {
+            moves(seed, count);
         } else if (!strcmp(what, "pairs")) {
             pairs(seed, count);
         } else if (!strcmp(what, "one")) {

@@ -1,5 +1,5 @@
 /* Shared types of the deck writer.  All limits and records follow document 01
-   and document 02, CR 1 and CR 3. */
+   and document 02, CR 1, CR 3 and CR 4. */
 #ifndef DECKS_H
 #define DECKS_H
 
@@ -18,7 +18,9 @@ enum {
     LIMIT_QI = 10000000,      /* 100,000 cfs in hundredths */
     LIMIT_BA = 999999,
     LIMIT_RATIOS = 9,
-    LIMIT_RATIO = 999         /* 9.99 in hundredths */
+    LIMIT_RATIO = 999,        /* 9.99 in hundredths */
+    LIMIT_RECORDS = 72000,    /* record bytes of a case */
+    LIMIT_MOVER = 80000       /* bytes of a file for the mover, and of its room */
 };
 #define LIMIT_FLOW INT64_C(6000000000000)
 
@@ -128,5 +130,13 @@ int damage_more(Deck *d, const Style *s);
 int deck_mutate_lines(Deck *d);
 int bytes_mutate(unsigned char *b, int n);
 int degenerate(unsigned char *out);
+
+/* ---- cases of the mover ---- */
+typedef struct {
+    int to_old;                    /* the direction */
+    int room, length;
+} Move;
+
+void move_case(Move *m, unsigned char *file);        /* file: LIMIT_MOVER bytes */
 
 #endif

@@ -1,13 +1,15 @@
 /* Fuzz driver of the self-test: runs thousands of mutated decks under the
  * sanitizers, from a fixed seed.  No outcome is known beforehand; what is
  * tested is what must hold for any deck (document 01, 'What comes back', and
- * document 02, CR 3):
+ * document 02, CR 3 and CR 4):
  * outcomes do not depend on what the lent room held or on room to spare,
  * refusals leave zeros, too little room is refused only where nothing else
- * is, records agree with ordinates, and some changes to a deck change nothing
- * or only the line.  Prints one line and ends with status 0, or says what
- * broke, shows the deck and ends with status 1. */
+ * is, records agree with ordinates and say their ratio, they move to the old
+ * form and back just where no other ratio than 1.00 is among them, and some
+ * changes to a deck change nothing or only the line.  Prints one line and ends
+ * with status 0, or says what broke, shows the deck and ends with status 1. */
 #include "engine.h"
+#include "mover.h"
 
 #include <stdbool.h>
 #include <stdio.h>
@@ -415,6 +417,34 @@ static void check_accepted(const struct outcome *base)
     expect(last, WORK_WORDS - 1, nq, bytes, 1, 0);
 }
 
+static bool has_old_form(const struct ratios *ratios)
+{
+    return ratios->count == 1 && ratios->value[0] == WHOLE_RATIO;
+}
+
+/* The records, moved to the old form and back. */
+static void check_moved(const struct outcome *base)
+{
+    size_t bytes = record_bytes(&base->answer);
+    size_t old_bytes = bytes / RECORD_BYTES * OLD_RECORD_BYTES;
+    uint8_t *old = take(old_bytes, 0x5A), *again = take(bytes, 0x5A);
+    struct moved moved = move_to_old(base->room.records, bytes, old,
+                                     old_bytes);
+
+    if (has_old_form(&base->answer.ratios)) {
+        if (moved.refusal != NOT_REFUSED || moved.bytes != old_bytes)
+            broken("records without another ratio do not move back");
+        moved = move_to_new(old, old_bytes, again, bytes);
+        if (moved.refusal != NOT_REFUSED || moved.bytes != bytes
+            || memcmp(again, base->room.records, bytes) != 0)
+            broken("records are not the same there and back");
+    } else if (moved.refusal != NO_OLD_FORM || !all_zero(old, 0, old_bytes)) {
+        broken("records with another ratio move back");
+    }
+    free(old);
+    free(again);
+}
+
 /* Bytes behind ZZ are not read. */
 static void check_behind_end(const struct outcome *base)
 {
@@ -459,6 +489,7 @@ static void check_deck(unsigned *count)
     count[base.answer.refusal]++;
     if (base.answer.refusal == 0) {
         check_accepted(&base);
+        check_moved(&base);
         check_behind_end(&base);
     } else {
         expect((struct named){ 9, 9 }, WORK_WORDS, 0, 0, base.answer.refusal,

@@ -1,7 +1,7 @@
 #!/usr/bin/env bash
 # Self-test of the second program.  Builds it and the fuzz driver with the
 # address and undefined-behaviour sanitizers, runs small decks against outcomes
-# worked out by hand from document 01 and document 02, CR 1 to CR 3, then the
+# worked out by hand from document 01 and document 02, CR 1 to CR 4, then the
 # fuzz.  The last line counts.
 #
 # Decks and expected texts are written with printf's escapes (\n, \r, \xHH).
@@ -12,6 +12,8 @@ prog=$out/hec1-checked
 fuzz=$out/fuzz-checked
 losses=$out/losses-checked
 ratios=$out/ratios-checked
+moves=$out/moves-checked
+decks=$out/decks-checked
 mkdir -p "$out"
 scratch=$(mktemp -d) || exit 1
 trap 'rm -rf "$scratch"' EXIT
@@ -30,6 +32,8 @@ build "$prog" $sources
 build "$fuzz" fuzz.c engine.c cards.c mover.c
 build "$losses" losses.c cards.c bundle.c
 build "$ratios" ratios.c cards.c bundle.c
+build "$moves" moves.c mover.c bundle.c
+build "$decks" decks.c decks_net.c decks_write.c decks_damage.c decks_moves.c
 
 # Nothing is looked for that was not freed: each run ends at once, and on some
 # machines the search takes seconds a run.
@@ -175,7 +179,7 @@ whole=6400010000000000      # ratio 1.00, the first place, and zeros
 part_a=412020202020020000000000008793030000000001000000
 part_a+=0087930300000000    # what a record was before it said its ratio
 rec_a=$part_a$whole
-zeros() { times "$1" 00; }
+zeros() { [ "$1" -eq 0 ] || printf '%0*d' $((2 * $1)) 0; }
 
 full "4 1 1\n60000000 0 0 0 0 0\n$rec_a$(zeros 8)\n0\n" "$small" --ordinates 6 --records 48
 full "4 1 1\n60000000 0 0 0\n$rec_a\n0\n" "$small" --ordinates 4 --records 40 --named 1
@@ -1481,6 +1485,290 @@ check 'an option with a bad number' 'status 2, said' "$(run --full --named 1x </
 check 'a ratio that is no number' 'status 2, said' "$(run --full --ratio 1.5 </dev/null)"
 check 'two modes' 'status 2, said' "$(run --full --cases </dev/null)"
 
+# ---- The mover ------------------------------------------------------------
+# Files are written in hex.  old and new are one record in either form, with no
+# zero among the bytes but for the padding and what the new form adds.
+
+bytes() { sed 's/../\\x&/g' <<<"$1"; }
+move_of() { # direction, room, file
+    printf '%s%s%s%s' "$(le4 "$1")" "$(le4 "$2")" "$(le4 $((${#3} / 2)))" "$(bytes "$3")"
+}
+# moves DIRECTION ROOM FILE MOVED: what is moved into the room, with zeros behind
+moves() { ask "$1" "$2" "$3" "MOVED $((${#4} / 2)) $4$(zeros $(($2 - ${#4} / 2))) --"; }
+# stays NUMBER DIRECTION ROOM FILE: a refusal, with a room of zeros
+stays() { ask "$2" "$3" "$4" "REFUSED $1 $(zeros "$3") --"; }
+# Both only ask; all that was asked is answered by one run, and checked then.
+asked=() wanted=()
+ask() {
+    printf '%b' "$(move_of "$1" "$2" "$3")" >>"$scratch/asked"
+    asked+=("--mover $1 $2 $3")
+    wanted+=("$4")
+}
+answer() {
+    local k got
+    mapfile -t got < <(run --mover <"$scratch/asked")
+    for ((k = 0; k < ${#asked[@]}; k++)); do
+        check "${asked[k]}" "${wanted[k]}" "${got[3 * k]-} ${got[3 * k + 1]-} ${got[3 * k + 2]-}"
+    done
+    check 'the end of all that was asked' 'status 0, silent' "${got[*]:3 * k}"
+}
+# set_byte RECORD PLACE VALUE: the record with another byte, from 0
+set_byte() { printf '%s%s%s' "${1:0:2 * $2}" "$3" "${1:2 * $2 + 2}"; }
+
+old=4142434445460100111213142122232425262728313200005152535455565758
+new=${old}6400010000000000
+other=6162202020200400ff000000ffeeddccbbaa99882c01000099887766554433a2
+other_new=${other}6400010000000000
+all_ff=$(set_byte "$(set_byte "$(set_byte "$(times 32 ff)" 7 00)" 22 00)" 23 00)
+
+# there, and back, and the rooms
+moves 0 40 "$old" "$new"
+moves 0 41 "$old" "$new"
+moves 0 79 "$old" "$new"
+moves 0 80 "$old" "$new"
+moves 0 2000 "$old" "$new"
+moves 1 32 "$new" "$old"
+moves 1 33 "$new" "$old"
+moves 1 40 "$new" "$old"                            # as long as the file
+moves 1 63 "$new" "$old"
+moves 1 64 "$new" "$old"
+moves 1 2000 "$new" "$old"
+moves 0 80 "$old$other" "$new$other_new"
+moves 0 120 "$other$old$other" "$other_new$new$other_new"
+moves 0 121 "$old$old$old" "$new$new$new"
+moves 1 64 "$other_new$new" "$other$old"
+moves 1 120 "$new$other_new$new" "$old$other$old"   # as long as the file
+moves 0 0 '' ''
+moves 0 1 '' ''
+moves 0 40 '' ''
+moves 1 0 '' ''
+moves 1 1 '' ''
+moves 1 100 '' ''
+# any bytes are moved but for the padding: names, kinds and sums of no engine
+moves 0 40 "$all_ff" "${all_ff}6400010000000000"
+moves 1 32 "${all_ff}6400010000000000" "$all_ff"
+moves 0 40 "$(zeros 32)" "$(zeros 32)6400010000000000"
+moves 1 32 "$(zeros 32)6400010000000000" "$(zeros 32)"
+for place in 0 5 6 8 11 12 19 20 21 24 31; do
+    text=$(set_byte "$(zeros 32)" "$place" 80)
+    moves 0 41 "$text" "${text}6400010000000000"
+    moves 1 33 "${text}6400010000000000" "$text"
+done
+
+# 1: length
+for length in 1 7 8 24 31 33 40 63 65 72; do
+    stays 1 0 200 "$(times "$length" 00)"
+    stays 1 0 0 "$(times "$length" 00)"
+done
+for length in 1 8 31 32 39 41 48 64 79 81; do
+    stays 1 1 200 "$(times "$length" 00)"
+    stays 1 1 0 "$(times "$length" 00)"
+done
+stays 1 0 40 "$new"                                 # the other form's size
+stays 1 0 80 "$new$new"
+stays 1 0 120 "$new$new$new"
+stays 1 1 32 "$old"
+stays 1 1 160 "$old$old$old$old"
+stays 1 1 80 "$old$other"
+stays 1 0 80 "$old${old:0:62}"
+stays 1 1 80 "$new${new:0:78}"
+# 160 bytes are five old records and four new ones: the length is no fault then
+stays 2 0 200 "$new$new$new$new"
+stays 2 1 200 "$old$old$old$old$old"
+moves 0 200 "$(zeros 160)" "$(times 5 "$(zeros 32)6400010000000000")"
+
+# 2: padding, in each byte, in each record, by each bit
+for value in 01 80 ff; do
+    for place in 7 22 23; do
+        text=$(set_byte "$old" "$place" "$value")
+        stays 2 0 40 "$text"
+        stays 2 0 120 "$text$old$old"
+        stays 2 0 120 "$old$text$old"
+        stays 2 0 121 "$old$old$text"
+    done
+    for place in 7 22 23 36 37 38 39; do
+        text=$(set_byte "$new" "$place" "$value")
+        stays 2 1 32 "$text"
+        stays 2 1 96 "$text$new$new"
+        stays 2 1 96 "$new$text$new"
+        stays 2 1 97 "$new$new$text"
+    done
+done
+stays 2 1 64 "${old}6400010001000000${old}6400010000000001"
+
+# 3: ratio and place
+for pair in 64000200 63000100 65000100 64000000 64010100 64000101 00000000 96000300 \
+    00000100 64000001 00640100 01006400 e7030100 e7030900 01000100 64000900 ffffffff; do
+    text=$old${pair}00000000
+    stays 3 1 32 "$text"
+    stays 3 1 96 "$text$new$new"
+    stays 3 1 96 "$new$text$new"
+    stays 3 1 97 "$new$new$text"
+    stays 3 1 200 "$text$text$text"
+done
+# 4: room
+stays 4 0 39 "$old"
+stays 4 0 32 "$old"                                 # as long as the file
+stays 4 0 1 "$old"
+stays 4 0 0 "$old"
+stays 4 0 79 "$old$old"
+stays 4 0 64 "$old$old"
+stays 4 0 40 "$old$other"                           # for all but the last
+stays 4 1 31 "$new"
+stays 4 1 1 "$new"
+stays 4 1 0 "$new"
+stays 4 1 63 "$new$new"
+stays 4 1 40 "$new$new"
+stays 4 1 32 "$new$other_new"
+
+# the order, over the whole file
+second_place=${old}6400020000000000
+padded=$(set_byte "$new" 39 01)
+padded_old=$(set_byte "$old" 7 01)
+stays 2 1 96 "$second_place$new$padded"             # 2 behind 3
+stays 2 1 96 "$padded$new$second_place"
+stays 2 1 32 "${old}6400020000000001"               # in one record
+stays 2 1 0 "$new$padded"                           # 2 before 4
+stays 2 0 0 "$old$padded_old"
+stays 2 0 79 "$old$padded_old"
+stays 3 1 0 "$new$second_place"                     # 3 before 4
+stays 3 1 63 "$second_place$new"
+stays 1 1 96 "$padded${new}00"                      # 1 before 2, 3 and 4
+stays 1 1 96 "$second_place${new}00"
+stays 1 1 0 "$new${new}00"
+stays 1 1 0 "$second_place${padded}00"
+stays 1 1 31 "${second_place:0:78}"
+stays 1 0 80 "$padded_old${old}00"
+stays 1 0 0 "$old${old}00"
+stays 1 0 0 "$padded_old${old:0:62}"
+stays 2 1 0 "$second_place$padded"
+
+# thousands: 80,000 bytes are the most for a file and for a room
+much_old=$(times 1999 "$old")$other much_new=$(times 1999 "$new")$other_new
+moves 0 80000 "$much_old" "$much_new"
+stays 4 0 79999 "$much_old"
+stays 2 0 80000 "$(times 1999 "$old")$padded_old"
+moves 1 80000 "$much_new" "$much_old"
+moves 1 64000 "$much_new" "$much_old"
+stays 4 1 63999 "$much_new"
+stays 3 1 64000 "$(times 1999 "$new")$second_place"
+stays 2 1 64000 "$second_place$(times 1998 "$new")$padded"
+stays 4 0 80000 "$(times 2500 "$old")"
+stays 2 0 0 "$padded_old$(times 2499 "$old")"
+stays 1 0 80000 "$(times 2499 "$old")${old:0:62}"
+answer
+
+# several cases, and where they end
+bundle --mover '' "$ok" ''
+bundle --mover "MOVED 40\n$new\n--\nREFUSED 4\n$(zeros 31)\n--\nMOVED 0\n\n--\nREFUSED 1\n00\n--\nMOVED 32\n$old\n--\n" "$ok" \
+    "$(move_of 0 40 "$old")$(move_of 1 31 "$new")$(move_of 0 0 '')$(move_of 1 1 00)$(move_of 1 32 "$new")"
+first="MOVED 40\n$new\n--\n"
+for rest in 00 00000000 0000000028000000 0000000028000000200000 "000000002800000020000000" \
+    "000000002800000020000000${old:0:62}" 0100000020000000280000005a; do
+    bundle --mover "$first" '2, said' "$(move_of 0 40 "$old")$(bytes "$rest")"
+done
+bundle --mover "$first" '2, said' "$(move_of 0 40 "$old")$(move_of 2 40 "$old")$(move_of 0 40 "$old")"
+bundle --mover "$first" '2, said' "$(move_of 0 40 "$old")$(move_of 256 40 "$old")"
+bundle --mover "$first" '2, said' "$(move_of 0 40 "$old")$(move_of 0 80001 "$old")$(move_of 0 40 "$old")"
+bundle --mover '' '2, said' "$(move_of 1 0 "$(times 80001 00)")"
+bundle --mover '' '2, said' "$(le4 0)$(le4 40)$(le4 4294967295)$(bytes "$old")"
+bundle --mover '' '2, said' "$(le4 4294967295)$(le4 40)$(le4 32)$(bytes "$old")"
+check 'two modes, one of them the mover' 'status 2, said' "$(run --mover --cases </dev/null)"
+check 'the mover and the store' 'status 2, said' "$(run --store --mover </dev/null)"
+
+# ---- The store --------------------------------------------------------------
+
+# hexed: standard input in hex
+hexed() { od -An -v -tx1 | tr -d ' \n'; }
+# store SAID RECORDS INPUT: what is said on standard error, with a bar for each
+# line's end, and the bytes on standard output
+store() {
+    local status
+    printf '%b' "$3" | "$prog" --store >"$scratch/raw" 2>"$scratch/err"
+    status=$?
+    check "--store $3" "status 0, $1, $2" "status $status, $(tr '\n' '|' <"$scratch/err"), $(hexed <"$scratch/raw")"
+}
+is_deck=$(le4 0) is_old=$(le4 1) is_new=$(le4 2)
+
+# a deck's records: without JR, with one, and the ratio as it stands on it
+store '' "$rec_a" "$is_deck$small"
+store '' "$rec_up$rec_riv$rec_side$rec_out" "$is_deck$pond"
+store '' "$rec_one$rec_two" "$is_deck$inch"
+store '' "$rec_a" "$is_deck$(jr PREC,1)"
+store '' "${part_a}6400010000000000${part_a}6400020000000000" "$is_deck$(jr PREC,1,1)"
+store '' "${part_a}e703010000000000" "$is_deck$(jr PREC,9.99)"                # 999 is 3e7
+store '' "${part_a}0001010000000000${part_a}ff00020000000000${part_a}0101030000000000" "$is_deck$(jr PREC,2.56,2.55,2.57)"
+store '' "$(for k in 1 2 3 4 5 6 7 8 9; do printf '%s01000%s0000000000' "$part_a" "$k"; done)" \
+    "$is_deck$(jr PREC,.01,.01,.01,.01,.01,.01,.01,.01,.01)"
+# three blocks under two ratios: all of the first ratio, then all of the second
+part_b=42${part_a#41} part_c=432020202020030000000000000e27070000000001000000000e270700000000
+store '' "${part_a}9600010000000000${part_b}9600010000000000${part_c}9600010000000000${part_a}3200020000000000${part_b}3200020000000000${part_c}3200020000000000" \
+    "$is_deck${free}JR PREC,1.5,.5\nKK A\nQI 1\nKK B\nQI 1\nKK C\nHC 2\nZZ\n"
+for text in '' ZZ 'XX\n' "${free}ZZ\n" "${pond/HC 2/HC 3}"; do
+    store "$(printf '%b' "$text" | "$prog" | tr '\n' '|')" '' "$is_deck$text"
+done
+store 'REFUSED 16 0|' '' "$is_deck"
+store 'REFUSED 15 3|' '' "$is_deck${free}ZZ\n"
+store 'REFUSED 2 0|' '' "$is_deck$small$(pad 60001)"
+store '' "$rec_a" "$is_deck$small$(pad 60000)"
+store 'REFUSED 13 10|' '' "$is_deck$(later 1,2)"
+
+# files
+store '' "$new$other_new" "$is_old$(bytes "$old$other")"
+store '' "$old$other" "$is_new$(bytes "$new$other_new")"
+store '' '' "$is_old"
+store '' '' "$is_new"
+store 'REFUSED 1|' '' "$is_old$(bytes "${old}00")"
+store 'REFUSED 1|' '' "$is_new$(bytes "$old")"
+store 'REFUSED 2|' '' "$is_old$(bytes "$old$padded_old")"
+store 'REFUSED 2|' '' "$is_new$(bytes "$second_place$padded")"
+store 'REFUSED 3|' '' "$is_new$(bytes "$new$second_place")"
+# what is asked cut short, or nothing that is known
+for text in '' '\x00' '\x00\x00\x00' '\x01\x00\x00' "$(le4 3)" "$(le4 3)$pond" "$(le4 256)" "$(le4 16777216)$pond" "$(le4 4294967295)ZZ"; do
+    store 'INPUT CUT|' '' "$text"
+done
+
+# there_and_back DECK: its records through the store, to the old form and back
+there_and_back() {
+    printf '%b' "$is_deck$1" | "$prog" --store >"$scratch/records" 2>"$scratch/err"
+    { printf '%b' "$is_new"; cat "$scratch/records"; } | "$prog" --store >"$scratch/old" 2>>"$scratch/err"
+    { printf '%b' "$is_old"; cat "$scratch/old"; } | "$prog" --store >"$scratch/again" 2>>"$scratch/err"
+}
+for text in "$small" "$pond" "$(jr PREC,1.00)" "$free$inflow${routed}ZZ\n"; do
+    there_and_back "$text"
+    check "there and back: $text" 'same' "$(cmp "$scratch/records" "$scratch/again" && [ -s "$scratch/again" ] && [ ! -s "$scratch/err" ] && echo same)"
+done
+for text in "$inch" "$(jr PREC,1.01)" "$(jr PREC,1,1)" "$(jr PREC,.99)"; do
+    there_and_back "$text"
+    check "never back: $text" 'REFUSED 3|' "$(tr '\n' '|' <"$scratch/err")$(hexed <"$scratch/old")"
+done
+
+# limits: 1,600,000 bytes for a file and for a room, which 40,000 records fill in
+# the new form
+nulls() { head -c "$1" /dev/zero; }
+{ printf '%b' "$is_old"; nulls 1280000; } | "$prog" --store >"$scratch/much" 2>"$scratch/err"
+check '40,000 records to the new form' '1600000 0' "$(wc -c <"$scratch/much") $(wc -c <"$scratch/err")"
+check 'all of them alike' "$(times 2 "$(zeros 32)$whole")" "$({ head -c 40; tail -c 40; } <"$scratch/much" | hexed)"
+{ printf '%b' "$is_new"; cat "$scratch/much"; } | "$prog" --store >"$scratch/old" 2>"$scratch/err"
+check '40,000 records to the old form' 'same' "$(nulls 1280000 | cmp - "$scratch/old" && [ ! -s "$scratch/err" ] && echo same)"
+# limit ASKED BYTES SAID: a file of zeros
+limit() {
+    { printf '%b' "$1"; nulls "$2"; } | "$prog" --store >"$scratch/much" 2>"$scratch/err"
+    check "--store, $2 zeros" "status 0, $3, 0" "status $?, $(tr '\n' '|' <"$scratch/err"), $(($(wc -c <"$scratch/much")))"
+}
+limit "$is_old" 1280032 'REFUSED 4|'
+limit "$is_old" 1280031 'REFUSED 1|'
+limit "$is_old" 1600000 'REFUSED 4|'
+limit "$is_old" 1600001 'REFUSED 0|'
+limit "$is_old" 3000000 'REFUSED 0|'
+limit "$is_new" 1600000 'REFUSED 3|'
+limit "$is_new" 1600001 'REFUSED 0|'
+limit "$is_new" 1600040 'REFUSED 0|'
+limit "$is_deck" 1600001 'REFUSED 2 0|'
+limit "$(le4 7)" 1600001 'INPUT CUT|'
+
+# ---- The counters ----------------------------------------------------------
+
 # The counter of losses, on blocks whose way and whose wrong rules are known:
 # the deck of document 01 is filled at the end of its first interval (another
 # excess by b: 0.30 - 0.10 - 0.10, and by e: 0); 0.60 alone leaves the uniform
@@ -1526,6 +1814,45 @@ printf '%b' "$known" | "$ratios" >"$scratch/said"
 check 'ratios: a count of 0 fails' 1 $?
 printf '%b' "$(sized "$pond")\x01" | "$ratios" >"$scratch/said" 2>&1
 check 'ratios: input cut short' 2 $?
+
+# The counter of moves.  To the new form: a record moved; the same with a room as
+# long as the file, which is enough by (k) alone.  To the old form: refused by 3
+# for place 2 in a room that is too short, which (f), (i) and (j) answer by 4;
+# refused by 2 for byte 39 in the second record, where (a), (c), the rule that
+# passes over that byte and (e) answer by 3 for the first; a byte too few.
+known=$(move_of 0 40 "$old")$(move_of 0 32 "$old")$(move_of 1 41 "$new$second_place")
+known+=$(move_of 1 64 "${old}6401010000000000$padded")$(move_of 1 0 "${new:0:78}")
+# moved, refused by 1 to 4; all, empty without and with room, one record and one
+# moved, thousands likewise, room as the file, exact, a byte less, a byte more,
+# all but the last, none; 1 beside 2, 3 and 4, 2 behind 3, 2 before 3, 2 and 4, 3
+# and 4, all; (a) to (c), bytes 7, 22, 23, 36 to 39, (e) to (k), left by 2, 3 and
+# 4, left behind, the sum; answers that are wrong
+expected='1 0,0 1,0 1,0 1,1 0,'
+expected+='2 3,0 0,0 0,2 0,1 0,0 0,0 0,1 0,1 1,0 0,0 0,0 0,0 0,'
+expected+='0 0,0 0,0 0,0 1,0 0,0 0,0 1,0 0,'
+expected+='0 1,0 0,0 1,0 0,0 0,0 0,0 0,0 0,0 0,0 1,0 1,0 1,0 0,0 0,0 1,0 1,1 0,'
+expected+='0 1,0 1,1 0,0 0,1 0,0,'
+got=$(printf '%b' "$known" | "$moves" | awk '$1 ~ /^[0-9]/ { printf "%s,", $1 (substr($0, 10, 8) ~ /[0-9]/ ? " " $2 : "") }')
+check 'moves counted' "$expected" "$got"
+printf '%b' "$known" | "$moves" >"$scratch/said"
+check 'moves: a count of 0 fails' 1 $?
+got=$(printf '%b' "$known" | "$moves" | grep -c ': MISSING$')
+check 'moves: what is missing' 37 "$got"
+for rest in '\x01' "$(le4 0)$(le4 1)" "$(le4 0)$(le4 1)$(le4 1)" "$(move_of 2 1 00)" "$(move_of 0 80001 00)"; do
+    printf '%b' "$known$rest" | "$moves" >"$scratch/said" 2>&1
+    check "moves: input cut short $rest" 2 $?
+done
+# the deck writer's own cases, with memory watched: the counter states the rules
+# of the mover once more, and counts where the mover does not follow them
+"$decks" moves 2 1000 >"$scratch/cases"
+"$moves" <"$scratch/cases" >"$scratch/said" 2>&1
+check 'moves: all written cases are looked at' 1000 "$(awk 'NF == 3 && $3 == "all" { print $1 + $2 }' "$scratch/said")"
+check 'moves: answers that are not right' 0 "$(awk 'END { print $1 }' "$scratch/said")"
+"$decks" moves 2 200 >"$scratch/fewer"
+cmp -s "$scratch/fewer" <(head -c $(($(wc -c <"$scratch/fewer"))) "$scratch/cases")
+check 'moves: the same seed begins alike' 0 $?
+"$decks" moves 3 200 | cmp -s - "$scratch/fewer"
+check 'moves: another seed does not' 1 $?
 
 # ---- Fuzz ----------------------------------------------------------------
 
