@@ -7,6 +7,7 @@
 --     first-some                   of two refusals the first, where it is one
 --     any-stops, any-goes, any-ends      the pass over the old form, at a place
 --     pass-stops, pass-goes, pass-ends   the pass over the new form, at a place
+--     refusal-apart                of a new file, with what that pass finds
 --     newRefusal, oldRefusal       of a whole file that is to become new, or old, in a room
 use Prim.Native.Nat.{ℕ, zero, suc, _+_, _≤_, _<_}
 use mathlib.Core.Path.{_≡_, refl, sym, ap, _∙_}
@@ -128,3 +129,14 @@ module _ (found : ℕ) (file : List ℕ) (p : ℕ) where
   pub pass-ends : length file < p + recordSize → faultAfter found (recordsIn recordSize (drop p file)) ≡ found
   unfolding anyFilled anyOther
   pass-ends short = ap (faultAfter found) (records-none recordSize file p (omega arith) short) ∙ none-after found
+
+-- 2 and 3 as one pass finds them
+first-of-three : (l m n : ℕ) → first l (first m n) ≡ first (first l m) n
+first-of-three zero m n = refl
+first-of-three (suc l) m n = refl
+
+pub refusal-apart : (file : List ℕ) (room : ℕ)
+    → oldRefusal file room ≡ first (lengthRefusal recordSize file) (first (faultIn (recordsIn recordSize file)) (roomRefusal room (movedBy oldForm recordSize file)))
+refusal-apart file room =
+    ap (first (lengthRefusal recordSize file))
+    (first-of-three (met (anyFilled newPadding (recordsIn recordSize file)) 2) (met (anyOther (recordsIn recordSize file)) 3) (roomRefusal room (movedBy oldForm recordSize file)))

@@ -18,7 +18,7 @@ module _ (size : ℕ) where
   unfolding recordsIn
   first-record file some whole =
       let count : length file / size ≡ suc (length (drop size file) / size) =
-          div-eq-sub-div some whole ∙ add-one ((length file - size) / size) ∙ ap (λ (n : ℕ). suc (n / size)) (sym (length-drop size file)) in
+      div-eq-sub-div some whole ∙ add-one ((length file - size) / size) ∙ ap (λ (n : ℕ). suc (n / size)) (sym (length-drop size file)) in
       ap (λ (n : ℕ). recordsFrom size n file) count
 
   pub no-record : (file : List ℕ) → length file < size → recordsIn size file ≡ []

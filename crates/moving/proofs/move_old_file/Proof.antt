@@ -1,82 +1,57 @@
+-- Between two turns the records before p stand in the room before q, in their new form.
+use Prim.Native.Nat.{_+_, _-_, _≤_}
+use mathlib.Core.Path.{_≡_, sym, ap, _∙_}
+use native.Mathlib.Omega.{arith}
+use lib.ListN.{length}
+use Rattle.meaning.specs.Results.{recordSize, oldRecordSize}
+use Rattle.meaning.specs.Moving.{newForm}
+use Rattle.sequences.specs.Parts.{part, put, length-part}
+use Rattle.moving.specs.Forms.{new-makes}
+use Rattle.moving.specs.Loops.{Moving, moving-starts, moving-fits, moving-goes, moving-ends}
 use Rattle.moving.proofs.move_old_file.Statement.{statement}
 use Rattle.moving.proofs.move_old_file.Tie as tie
-use Rattle.moving.proofs.move_old_file.Reads as reads
-use Rattle.moving.proofs.move_old_file.Lts as lts
-use Rattle.moving.proofs.put_new.Reads as put-new-reads
 
 abbrev Inv-loop : tie.InvT-loop
-Inv-loop file room₀ q₀ p₀ room q p = ?
+Inv-loop file room₀ q₀ p₀ room q p = Moving newForm oldRecordSize file room₀ room p q
 
 abbrev μ-loop : tie.MeasureT-loop
-μ-loop file room₀ q₀ p₀ room q p = ?
+μ-loop file room₀ q₀ p₀ room q p = length file - p
 
--- src/lib.rt:186:5
 loop-holds : tie.Need-loop-holds Inv-loop μ-loop
-loop-holds c = ?
+loop-holds c = moving-starts newForm oldRecordSize recordSize (omega arith) new-makes (c .before .before .args .file .now) (c .before .before .args .room .now)
 
--- src/lib.rt:186:11
-add-loop : tie.Need-add-loop Inv-loop μ-loop
-add-loop c = ?
+-- there is room for the next record
+fits : (c : tie.In-loop Inv-loop μ-loop) → c .before .loop .q + recordSize ≤ length (c .before .loop .room)
+fits c =
+    let l = c .before .loop in
+    let x = c .before .before .before .before .args in
+    omega (arith, l .inv .long, moving-fits newForm oldRecordSize recordSize (omega arith) new-makes (x .file .now) (x .room .now) (l .room) (l .p) (l .q) (l .inv) (c .loop-test .taken) (c .before .before .before .before .pre))
 
--- src/lib.rt:187:30
-add-put-new : tie.Need-add-put-new Inv-loop μ-loop
-add-put-new c = ?
-
--- src/lib.rt:187:17
-sub-put-new : tie.Need-sub-put-new Inv-loop μ-loop
-sub-put-new c = ?
-
--- src/lib.rt:187:17
-part-put-new-start : tie.Need-part-put-new-start Inv-loop μ-loop
-part-put-new-start c = ?
-
--- src/lib.rt:187:17
-part-put-new-end : tie.Need-part-put-new-end Inv-loop μ-loop
-part-put-new-end c = ?
-
--- src/lib.rt:187:52
-add-put-new-2 : tie.Need-add-put-new-2 Inv-loop μ-loop
-add-put-new-2 c = ?
-
--- src/lib.rt:187:43
-sub-put-new-2 : tie.Need-sub-put-new-2 Inv-loop μ-loop
-sub-put-new-2 c = ?
-
--- src/lib.rt:187:43
-part-put-new-start-2 : tie.Need-part-put-new-start-2 Inv-loop μ-loop
-part-put-new-start-2 c = ?
-
--- src/lib.rt:187:43
-part-put-new-end-2 : tie.Need-part-put-new-end-2 Inv-loop μ-loop
-part-put-new-end-2 c = ?
-
--- src/lib.rt:187:9
 put-new-requires : tie.Need-put-new-requires Inv-loop μ-loop
-put-new-requires c κs = ?
+put-new-requires c κs =
+    let l = c .before .before .before .loop in
+    let m : l .q + recordSize - l .q ≡ recordSize = omega arith in
+    let n : l .p + oldRecordSize - l .p ≡ oldRecordSize = omega arith in
+    (rw m (length-part (l .q) recordSize (l .room) (fits (c .before .before))), rw n (length-part (l .p) oldRecordSize (c .before .before .before .before .before .before .args .file .now) (c .before .before .loop-test .taken)))
 
--- src/lib.rt:188:9
-add-q : tie.Need-add-q Inv-loop μ-loop
-add-q c = ?
-
--- src/lib.rt:189:9
-add-p : tie.Need-add-p Inv-loop μ-loop
-add-p c = ?
-
--- src/lib.rt:186:5
-loop-less : tie.Need-loop-less Inv-loop μ-loop
-loop-less c = ?
-
--- src/lib.rt:186:5
 loop-again : tie.Need-loop-again Inv-loop μ-loop
-loop-again c = ?
+loop-again c =
+    let l = c .before .before .before .before .before .before .loop in
+    let x = c .before .before .before .before .before .before .before .before .before .args in
+    let m : l .q + recordSize - l .q ≡ recordSize = omega arith in
+    let n : l .p + oldRecordSize - l .p ≡ oldRecordSize = omega arith in
+    let written : c .before .before .put-new .last .0 ≡ newForm (part (l .p) oldRecordSize (x .file .now)) = rw n at (c .before .before .put-new .ensures) in
+    moving-goes newForm oldRecordSize recordSize (omega arith) new-makes (x .file .now) (x .room .now) (l .room) (l .p) (l .q) (l .inv) _ (c .before .before .before .before .before .loop-test .taken)
+    (omega (arith, l .inv .long, fits (c .before .before .before .before .before))) (rw m (ap (put (l .q) recordSize (l .room)) written))
 
--- src/lib.rt:180:1
 same-length : tie.Need-same-length Inv-loop μ-loop
-same-length c = ?
+same-length c = c .before .loop .inv .long
 
--- src/lib.rt:180:1
 returns : tie.Need-returns Inv-loop μ-loop
-returns c = ?
+returns c =
+    let l = c .before .loop in
+    let x = c .before .before .before .before .args in
+    moving-ends newForm oldRecordSize recordSize (omega arith) new-makes (x .file .now) (x .room .now) (l .room) (l .p) (l .q) (l .inv) (c .loop-test .left)
 
 pub move-old-file-spec : {M : Type 1} → statement M
 move-old-file-spec =
@@ -85,19 +60,19 @@ move-old-file-spec =
     Inv-loop
     μ-loop
     loop-holds
-    add-loop
-    add-put-new
-    sub-put-new
-    part-put-new-start
-    part-put-new-end
-    add-put-new-2
-    sub-put-new-2
-    part-put-new-start-2
-    part-put-new-end-2
+    (λ c. omega arith)  -- add-loop
+    (λ c. omega (arith, fits c))  -- add-put-new
+    (λ c. omega (arith, fits c))  -- sub-put-new
+    (λ c. omega (arith, fits c))  -- part-put-new-start
+    (λ c. omega (arith, fits c))  -- part-put-new-end
+    (λ c. omega arith)  -- add-put-new-2
+    (λ c. omega arith)  -- sub-put-new-2
+    (λ c. omega arith)  -- part-put-new-start-2
+    (λ c. omega arith)  -- part-put-new-end-2
     put-new-requires
-    add-q
-    add-p
-    loop-less
+    (λ c. omega (arith, fits (c .before .before .before .before .before)))  -- add-q
+    (λ c. omega arith)  -- add-p
+    (λ c. omega arith)  -- loop-less
     loop-again
     same-length
     returns)

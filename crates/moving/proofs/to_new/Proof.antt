@@ -1,54 +1,44 @@
+-- The refusal is the definition's; the room is zeroed for it, or what the loop moved is settled.
+use Prim.Native.Nat.{_≤_}
+use mathlib.Core.Path.{_≡_, _∙_}
+use native.Mathlib.Omega.{arith}
 use borrow.Author.Needs.{needs}
+use lib.ListN.{length}
+use Rattle.moving.specs.Outcomes.{new-refused, new-moved, new-room}
 use Rattle.moving.proofs.to_new.Statement.{statement}
 use Rattle.moving.proofs.to_new.Tie as tie
-use Rattle.moving.proofs.to_new.Reads as reads
-use Rattle.moving.proofs.to_new.Lts as lts
-use Rattle.moving.proofs.move_old_file.Reads as move-old-file-reads
-use Rattle.moving.proofs.refuse.Reads as refuse-reads
-use Rattle.moving.proofs.refuse_old_file.Reads as refuse-old-file-reads
-use Rattle.moving.proofs.settle.Reads as settle-reads
 
--- src/lib.rt:230:9
-refuse-old-file-requires : tie.Need-refuse-old-file-requires
-refuse-old-file-requires c κs = search needs
-
--- src/lib.rt:232:9
-refuse-requires : tie.Need-refuse-requires
-refuse-requires c κs = search needs
-
--- src/lib.rt:232:9
-same-length : tie.Need-same-length
-same-length c = search needs
-
--- src/lib.rt:232:9
 returns : tie.Need-returns
-returns c = ?
+returns c =
+    let x = c .before .before .before .before .before .before .before .before .args in
+    c .before .before .refuse .ensures ∙ new-refused (x .file .now) (length (x .room .now)) (c .before .before .before .before .before .refuse-old-file .ensures) (c .before .before .before .before .if1 .taken)
 
--- src/lib.rt:234:9
 move-old-file-requires : tie.Need-move-old-file-requires
-move-old-file-requires c κs = ?
+move-old-file-requires c κs =
+    let x = c .before .before .before .before .before .args in
+    new-room (x .file .now) (length (x .room .now)) (c .before .before .refuse-old-file .ensures) (c .before .if1 .left)
 
--- src/lib.rt:235:5
 settle-requires : tie.Need-settle-requires
-settle-requires c κs = ?
+settle-requires c κs =
+    let x = c .before .before .before .before .before .before .before .before .before .args in
+    let moved = c .before .before .before .move-old-file in
+    omega (arith, moved .ensures .count, moved .kept .1 .0, new-room (x .file .now) (length (x .room .now)) (c .before .before .before .before .before .before .refuse-old-file .ensures) (c .before .before .before .before .before .if1 .left))
 
--- src/lib.rt:227:1
-same-length-2 : tie.Need-same-length-2
-same-length-2 c = search needs
-
--- src/lib.rt:227:1
 returns-2 : tie.Need-returns-2
-returns-2 c = ?
+returns-2 c =
+    let x = c .before .before .before .before .before .before .before .before .before .before .before .before .args in
+    let moved = c .before .before .before .before .before .before .move-old-file in
+    c .before .before .settle .ensures ∙ new-moved (x .file .now) (x .room .now) (c .before .before .before .before .before .before .before .before .before .refuse-old-file .ensures) (c .before .before .before .before .before .before .before .before .if1 .left) (moved .kept .1 .0) (moved .ensures)
 
 pub to-new-spec : {M : Type 1} → statement M
 to-new-spec =
     tie.close
     (tie.spec
-    refuse-old-file-requires
-    refuse-requires
-    same-length
+    (λ c κs. search needs)  -- refuse-old-file-requires
+    (λ c κs. search needs)  -- refuse-requires
+    (λ c. search needs)  -- same-length
     returns
     move-old-file-requires
     settle-requires
-    same-length-2
+    (λ c. search needs)  -- same-length-2
     returns-2)

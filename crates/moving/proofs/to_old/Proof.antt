@@ -1,54 +1,44 @@
+-- The refusal is the definition's; the room is zeroed for it, or what the loop moved is settled.
+use Prim.Native.Nat.{_≤_}
+use mathlib.Core.Path.{_≡_, _∙_}
+use native.Mathlib.Omega.{arith}
 use borrow.Author.Needs.{needs}
+use lib.ListN.{length}
+use Rattle.moving.specs.Outcomes.{old-refused, old-moved, old-room}
 use Rattle.moving.proofs.to_old.Statement.{statement}
 use Rattle.moving.proofs.to_old.Tie as tie
-use Rattle.moving.proofs.to_old.Reads as reads
-use Rattle.moving.proofs.to_old.Lts as lts
-use Rattle.moving.proofs.move_new_file.Reads as move-new-file-reads
-use Rattle.moving.proofs.refuse.Reads as refuse-reads
-use Rattle.moving.proofs.refuse_new_file.Reads as refuse-new-file-reads
-use Rattle.moving.proofs.settle.Reads as settle-reads
 
--- src/lib.rt:242:9
-refuse-new-file-requires : tie.Need-refuse-new-file-requires
-refuse-new-file-requires c κs = search needs
-
--- src/lib.rt:244:9
-refuse-requires : tie.Need-refuse-requires
-refuse-requires c κs = search needs
-
--- src/lib.rt:244:9
-same-length : tie.Need-same-length
-same-length c = search needs
-
--- src/lib.rt:244:9
 returns : tie.Need-returns
-returns c = ?
+returns c =
+    let x = c .before .before .before .before .before .before .before .before .args in
+    c .before .before .refuse .ensures ∙ old-refused (x .file .now) (length (x .room .now)) (c .before .before .before .before .before .refuse-new-file .ensures) (c .before .before .before .before .if1 .taken)
 
--- src/lib.rt:246:9
 move-new-file-requires : tie.Need-move-new-file-requires
-move-new-file-requires c κs = ?
+move-new-file-requires c κs =
+    let x = c .before .before .before .before .before .args in
+    old-room (x .file .now) (length (x .room .now)) (c .before .before .refuse-new-file .ensures) (c .before .if1 .left)
 
--- src/lib.rt:247:5
 settle-requires : tie.Need-settle-requires
-settle-requires c κs = ?
+settle-requires c κs =
+    let x = c .before .before .before .before .before .before .before .before .before .args in
+    let moved = c .before .before .before .move-new-file in
+    omega (arith, moved .ensures .count, moved .kept .1 .0, old-room (x .file .now) (length (x .room .now)) (c .before .before .before .before .before .before .refuse-new-file .ensures) (c .before .before .before .before .before .if1 .left))
 
--- src/lib.rt:239:1
-same-length-2 : tie.Need-same-length-2
-same-length-2 c = search needs
-
--- src/lib.rt:239:1
 returns-2 : tie.Need-returns-2
-returns-2 c = ?
+returns-2 c =
+    let x = c .before .before .before .before .before .before .before .before .before .before .before .before .args in
+    let moved = c .before .before .before .before .before .before .move-new-file in
+    c .before .before .settle .ensures ∙ old-moved (x .file .now) (x .room .now) (c .before .before .before .before .before .before .before .before .before .refuse-new-file .ensures) (c .before .before .before .before .before .before .before .before .if1 .left) (moved .kept .1 .0) (moved .ensures)
 
 pub to-old-spec : {M : Type 1} → statement M
 to-old-spec =
     tie.close
     (tie.spec
-    refuse-new-file-requires
-    refuse-requires
-    same-length
+    (λ c κs. search needs)  -- refuse-new-file-requires
+    (λ c κs. search needs)  -- refuse-requires
+    (λ c. search needs)  -- same-length
     returns
     move-new-file-requires
     settle-requires
-    same-length-2
+    (λ c. search needs)  -- same-length-2
     returns-2)
