@@ -6,3 +6,7 @@ pub mod Forms
 pub mod Tests
 pub mod Faults
 pub mod Outcomes
+pub mod Joined
+pub mod Movers
+pub mod Undone
+pub mod ThereAndBack

@@ -40,7 +40,7 @@ number-same (x ∷ xs) (y ∷ ys) long h k =
     ∙ ap (λ (t : Bool). (x =? y) && t) (number-same xs ys (omega arith) (bound-tail 255 x xs h) (bound-tail 255 y ys k))
 
 -- four bytes at the front of a list
-four-bytes : (xs : List ℕ) → 4 ≤ length xs → take 4 xs ≡ getD xs 0 0 ∷ getD xs 1 0 ∷ getD xs 2 0 ∷ getD xs 3 0 ∷ []
+pub four-bytes : (xs : List ℕ) → 4 ≤ length xs → take 4 xs ≡ getD xs 0 0 ∷ getD xs 1 0 ∷ getD xs 2 0 ∷ getD xs 3 0 ∷ []
 four-bytes [] h = absurd (omega arith)
 four-bytes (a ∷ []) h = absurd (omega arith)
 four-bytes (a ∷ b ∷ []) h = absurd (omega arith)
