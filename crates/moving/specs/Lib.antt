@@ -1,2 +1,12 @@
 -- What the mover answers, and the laws of moving.
 pub mod Answers
+pub mod Records
+pub mod Loops
+pub mod Forms
+pub mod Tests
+pub mod Faults
+pub mod Outcomes
+pub mod Joined
+pub mod Movers
+pub mod Undone
+pub mod ThereAndBack

@@ -1,7 +1,248 @@
 // The mover: a result file from the old form to the new, and back, between lent bytes.
+ghost use mathlib.Core.Path.{_≡_};
+ghost use mathlib.Core.List.{_++_};
+ghost use Prim.Native.Nat.{_≤_};
+ghost use lib.ListN.{length, take, drop};
+ghost use Rattle.meaning.specs.Words.{first};
+ghost use Rattle.meaning.specs.Results.{recordSize, oldRecordSize};
+ghost use Rattle.meaning.specs.Moving.{oldPadding, newForm, oldForm, recordsIn, filled, anyFilled, otherRatio, toNew, toOld};
+ghost use Rattle.moving.specs.Answers.{outcomeIs, refusedIn, movedIn};
+ghost use Rattle.moving.specs.Records.{movedBy};
+ghost use Rattle.moving.specs.Loops.{MovedTo};
+ghost use Rattle.moving.specs.Tests.{tailPadding};
+ghost use Rattle.moving.specs.Faults.{faultOf, faultIn, newRefusal, oldRefusal};
+
+// How many bytes a record has: the definitions' `recordSize`.
+pub const RECORD: usize = 40;
+
+// And how many in the old form: the definitions' `oldRecordSize`.
+pub const OLD: usize = 32;
+
+// Ratio 100 and place 1, in two bytes each and the lowest first, as one number: it is read and written at once.
+const WHOLE: u64 = 65_636;
 
 // What became of a file: how many bytes were moved, or the number of the refusal.
 pub enum Move {
     Moved(usize),
     Refused(u64),
+}
+
+// Padding that is not zero, among the bytes that both forms have.
+fn is_filled(r: &[u8]) -> bool
+    requires { ⌜ oldRecordSize ≤ length (now r) ⌝ }
+    ensures { λ t. ⌜ t ≡ filled oldPadding (now (r .entry)) ⌝ }
+{
+    if r[7] != 0 {
+        return true;
+    }
+    if r[22] != 0 {
+        return true;
+    }
+    r[23] != 0
+}
+
+// Padding that is not zero, behind the place.
+fn is_tail_filled(r: &[u8]) -> bool
+    requires { ⌜ length (now r) ≡ recordSize ⌝ }
+    ensures { λ t. ⌜ t ≡ filled tailPadding (now (r .entry)) ⌝ }
+{
+    slices::read_le(&r[36..40]) != 0
+}
+
+// A ratio that is not 100, or a place that is not 1.
+fn is_other(r: &[u8]) -> bool
+    requires { ⌜ length (now r) ≡ recordSize ⌝ }
+    ensures { λ t. ⌜ t ≡ otherRatio (now (r .entry)) ⌝ }
+{
+    slices::read_le(&r[32..36]) != WHOLE
+}
+
+// What one record of the new form is refused for.
+fn fault_of(r: &[u8]) -> u64
+    requires { ⌜ length (now r) ≡ recordSize ⌝ }
+    ensures { λ n. ⌜ n ≡ faultOf (now (r .entry)) ⌝ }
+{
+    if is_filled(r) {
+        return 2;
+    }
+    if is_tail_filled(r) {
+        return 2;
+    }
+    if is_other(r) {
+        return 3;
+    }
+    0
+}
+
+// Of two refusals the first; 0 is none.
+fn keep_first(found: u64, next: u64) -> u64
+    ensures { λ n. ⌜ n ≡ first found next ⌝ }
+{
+    if found == 0 { next } else { found }
+}
+
+// Padding that is not zero, in any record of an old file.
+fn is_any_filled(file: &[u8]) -> bool
+    ensures { λ t. ⌜ t ≡ anyFilled oldPadding (recordsIn oldRecordSize (now (file .entry))) ⌝ }
+{
+    let mut p = 0;
+    while p + OLD <= file.len() {
+        if is_filled(&file[p..p + OLD]) {
+            return true;
+        }
+        p += OLD;
+    }
+    false
+}
+
+// What a new file is refused for by its records. 2 in a later record comes before 3 in an earlier one, so a 3 is noted and the loop goes on.
+fn find_fault(file: &[u8]) -> u64
+    ensures { λ n. ⌜ n ≡ faultIn (recordsIn recordSize (now (file .entry))) ⌝ }
+{
+    let mut found = 0;
+    let mut p = 0;
+    while p + RECORD <= file.len() {
+        let fault = fault_of(&file[p..p + RECORD]);
+        if fault == 2 {
+            return 2;
+        }
+        found = keep_first(found, fault);
+        p += RECORD;
+    }
+    found
+}
+
+// What an old file is refused for, with so much room; 0 for nothing.
+fn refuse_old_file(file: &[u8], room: usize) -> u64
+    ensures { λ n. ⌜ n ≡ newRefusal (now (file .entry)) room ⌝ }
+{
+    let n = file.len();
+    if n % OLD != 0 {
+        return 1;
+    }
+    if is_any_filled(file) {
+        return 2;
+    }
+    if room < n / OLD * RECORD {
+        return 4;
+    }
+    0
+}
+
+// What a new file is refused for, with so much room; 0 for nothing.
+fn refuse_new_file(file: &[u8], room: usize) -> u64
+    ensures { λ n. ⌜ n ≡ oldRefusal (now (file .entry)) room ⌝ }
+{
+    let n = file.len();
+    if n % RECORD != 0 {
+        return 1;
+    }
+    let fault = find_fault(file);
+    if fault != 0 {
+        return fault;
+    }
+    if room < n / RECORD * OLD {
+        return 4;
+    }
+    0
+}
+
+// The bytes that both forms have. Their number is a constant, so that they are moved in wide pieces.
+fn copy_old(to: &mut [u8], from: &[u8])
+    requires { ⌜ (oldRecordSize ≤ length (now to)) × (oldRecordSize ≤ length (now from)) ⌝ }
+    ensures { λ _. ⌜ now (to .exit) ≡ take oldRecordSize (now (from .entry)) ++ drop oldRecordSize (now (to .entry)) ⌝ }
+{
+    let mut i = 0;
+    while i < OLD {
+        to[i] = from[i];
+        i += 1;
+    }
+}
+
+// An old record in the new form: ratio 100, place 1 and zeros behind it.
+fn put_new(to: &mut [u8], from: &[u8])
+    requires { ⌜ (length (now to) ≡ recordSize) × (length (now from) ≡ oldRecordSize) ⌝ }
+    ensures { λ _. ⌜ now (to .exit) ≡ newForm (now (from .entry)) ⌝ }
+{
+    copy_old(to, from);
+    slices::put_le(&mut to[OLD..RECORD], WHOLE);
+}
+
+// A new record in the old form.
+fn put_old(to: &mut [u8], from: &[u8])
+    requires { ⌜ (length (now to) ≡ oldRecordSize) × (length (now from) ≡ recordSize) ⌝ }
+    ensures { λ _. ⌜ now (to .exit) ≡ oldForm (now (from .entry)) ⌝ }
+{
+    copy_old(to, from);
+}
+
+// Every record of an old file in the new form, from the front of the room on; how many bytes they are.
+fn move_old_file(file: &[u8], room: &mut [u8]) -> usize
+    requires { ⌜ length (movedBy newForm oldRecordSize (now file)) ≤ length (now room) ⌝ }
+    ensures { λ n. ⌜ MovedTo (movedBy newForm oldRecordSize (now (file .entry))) (now (room .entry)) (now (room .exit)) n ⌝ }
+{
+    let mut q = 0;
+    let mut p = 0;
+    while p + OLD <= file.len() {
+        put_new(&mut room[q..q + RECORD], &file[p..p + OLD]);
+        q += RECORD;
+        p += OLD;
+    }
+    q
+}
+
+// Every record of a new file in the old form, from the front of the room on; how many bytes they are.
+fn move_new_file(file: &[u8], room: &mut [u8]) -> usize
+    requires { ⌜ length (movedBy oldForm recordSize (now file)) ≤ length (now room) ⌝ }
+    ensures { λ n. ⌜ MovedTo (movedBy oldForm recordSize (now (file .entry))) (now (room .entry)) (now (room .exit)) n ⌝ }
+{
+    let mut q = 0;
+    let mut p = 0;
+    while p + RECORD <= file.len() {
+        put_old(&mut room[q..q + OLD], &file[p..p + RECORD]);
+        q += OLD;
+        p += RECORD;
+    }
+    q
+}
+
+// Nothing is left in the room.
+fn refuse(number: u64, room: &mut [u8]) -> Move
+    ensures { λ m. ⌜ outcomeIs m (now (room .exit)) ≡ refusedIn number (length (now (room .entry))) ⌝ }
+{
+    slices::fill_bytes(room, 0);
+    Move::Refused(number)
+}
+
+// The first `n` bytes of the room were moved; nothing is left behind them.
+fn settle(n: usize, room: &mut [u8]) -> Move
+    requires { ⌜ n ≤ length (now room) ⌝ }
+    ensures { λ m. ⌜ outcomeIs m (now (room .exit)) ≡ movedIn (take n (now (room .entry))) (length (now (room .entry))) ⌝ }
+{
+    slices::fill_bytes(&mut room[n..], 0);
+    Move::Moved(n)
+}
+
+// A result file from the old form to the new. Nothing is moved before the whole file and the room are found good.
+pub fn to_new(file: &[u8], room: &mut [u8]) -> Move
+    ensures { λ m. ⌜ outcomeIs m (now (room .exit)) ≡ toNew (now (file .entry)) (length (now (room .entry))) ⌝ }
+{
+    let number = refuse_old_file(file, room.len());
+    if number != 0 {
+        return refuse(number, room);
+    }
+    let n = move_old_file(file, room);
+    settle(n, room)
+}
+
+// A result file from the new form to the old. Nothing is moved before the whole file and the room are found good.
+pub fn to_old(file: &[u8], room: &mut [u8]) -> Move
+    ensures { λ m. ⌜ outcomeIs m (now (room .exit)) ≡ toOld (now (file .entry)) (length (now (room .entry))) ⌝ }
+{
+    let number = refuse_new_file(file, room.len());
+    if number != 0 {
+        return refuse(number, room);
+    }
+    let n = move_new_file(file, room);
+    settle(n, room)
 }

@@ -1,0 +1,38 @@
+-- The two forms of a record, as the code writes them.
+--     whole            ratio 100 and place 1 as one number, as the code reads and writes them
+--     new-makes, old-makes     how many bytes the two forms have
+--     new-put, old-put         what is left where the old bytes are copied, and ratio and place written behind them
+use Prim.Native.Nat.{ℕ, _≤_}
+use mathlib.Core.Path.{_≡_, sym, _∙_}
+use mathlib.Core.List.{List, [], _++_, append-nil, append-assoc}
+use native.Mathlib.Omega.{arith}
+use lib.ListN.{length, take, drop, length-append, length-drop, drop-of-length-le}
+use lib.Seq.{length-take-le, take-all, take-at, drop-at}
+use Rattle.meaning.specs.Results.{littleEndian, recordSize, oldRecordSize}
+use Rattle.meaning.specs.Moving.{newForm, oldForm, wholeRatio}
+use Rattle.sequences.specs.Parts.{put}
+use Rattle.moving.specs.Records.{Makes}
+
+abbrev pub whole : ℕ
+whole = 65_636
+
+pub new-makes : Makes newForm oldRecordSize recordSize
+new-makes r h = simp length-append (omega arith)
+
+pub old-makes : Makes oldForm recordSize oldRecordSize
+old-makes r h = length-take-le oldRecordSize r (omega arith)
+
+pub new-put : (from to copied written : List ℕ) → length to ≡ recordSize → length from ≡ oldRecordSize
+    → copied ≡ take oldRecordSize from ++ drop oldRecordSize to → written ≡ put oldRecordSize 8 copied (littleEndian 8 whole) → written ≡ newForm from
+new-put from to copied written room size e f =
+    let all : take oldRecordSize from ≡ from = take-all oldRecordSize from (omega arith) in
+    let end : length (drop oldRecordSize to) ≤ 8 = simp length-drop (omega arith) in
+    let none : drop 8 (drop oldRecordSize to) ≡ [] = drop-of-length-le (drop oldRecordSize to) end in
+    f ∙ rw (e, all, take-at from (drop oldRecordSize to) oldRecordSize size, drop-at from (drop oldRecordSize to) oldRecordSize size, none)
+    (sym (append-assoc from wholeRatio (littleEndian 4 0)))
+
+pub old-put : (from to copied : List ℕ) → length to ≡ oldRecordSize → copied ≡ take oldRecordSize from ++ drop oldRecordSize to → copied ≡ oldForm from
+old-put from to copied room e =
+    let end : length to ≤ oldRecordSize = omega arith in
+    let none : drop oldRecordSize to ≡ [] = drop-of-length-le to end in
+    e ∙ rw none (append-nil (take oldRecordSize from))
