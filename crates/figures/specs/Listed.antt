@@ -15,31 +15,26 @@ use Rattle.meaning.specs.Fields.{trimEnd, isBlank}
 use Rattle.meaning.specs.Records.{anyBlank, mostOrdinates}
 use Rattle.meaning.specs.Water.{flowLimit, sumOf}
 use Rattle.meaning.specs.Blocks.{Kind, NoKind, Basin, Inflow, Confluence, Reach, kindNumber, kindOf}
-use Rattle.meaning.specs.Results.{Result, peakOf, intervalOf, littleEndian, blanksAfter, labelOf, recordOf}
+use Rattle.meaning.specs.Results.{Result, peakOf, intervalOf, blanksAfter, recordOf}
 use Rattle.meaning.specs.Listing.{whole, twoPlaces, rounded, listed}
 use Rattle.sequences.specs.Parts.{part}
 use Rattle.summary.specs.Peaks.{interval-bound, sum-bound}
-use Rattle.results.specs.Record.{recordBytes, record-of, length-blanksAfter}
+use Rattle.results.specs.Record.{recordBytes, record-of, length-blanksAfter, behindName, behind-name}
 use Rattle.slices.specs.Bytes.{fromLittleEndian, read-back}
 use Rattle.text.specs.Trim.{trim-name}
 use Rattle.figures.specs.declared.Figures.{Figures}
 use Rattle.figures.specs.Line.{figuresOf, figuresText, lineOf}
 
--- The bytes of a record behind the name.
-abbrev tail : (kind area peak interval sum ratio place : ℕ) → List ℕ
-tail kind area peak interval sum ratio place =
-    littleEndian 1 kind ++ littleEndian 1 0 ++ littleEndian 4 area ++ littleEndian 8 peak ++ littleEndian 2 interval ++ littleEndian 2 0 ++ littleEndian 8 sum ++ labelOf ratio place
-
 module _ (name : List ℕ) (kind area peak interval sum ratio place : ℕ) (short : length name ≤ 6) where
-  behind-name : recordBytes name kind area peak interval sum ratio place ≡ blanksAfter 6 name ++ tail kind area peak interval sum ratio place
-  behind-name = simp append-assoc
+  apart : recordBytes name kind area peak interval sum ratio place ≡ blanksAfter 6 name ++ behindName kind area peak interval sum ratio place
+  apart = behind-name name kind area peak interval sum ratio place
 
   name-part : part 0 6 (recordBytes name kind area peak interval sum ratio place) ≡ blanksAfter 6 name
-  name-part = rw behind-name (take-at (blanksAfter 6 name) _ 6 (length-blanksAfter 6 name short))
+  name-part = rw apart (take-at (blanksAfter 6 name) _ 6 (length-blanksAfter 6 name short))
 
   -- a part behind the name
-  figure-part : (a n : ℕ) → part (6 + a) n (recordBytes name kind area peak interval sum ratio place) ≡ part a n (tail kind area peak interval sum ratio place)
-  figure-part a n = rw (behind-name, ← drop-drop a 6 (blanksAfter 6 name ++ tail kind area peak interval sum ratio place), drop-at (blanksAfter 6 name) _ 6 (length-blanksAfter 6 name short))
+  figure-part : (a n : ℕ) → part (6 + a) n (recordBytes name kind area peak interval sum ratio place) ≡ part a n (behindName kind area peak interval sum ratio place)
+  figure-part a n = rw (apart, ← drop-drop a 6 (blanksAfter 6 name ++ behindName kind area peak interval sum ratio place), drop-at (blanksAfter 6 name) _ 6 (length-blanksAfter 6 name short))
 
 same-figures : {k a p i s k′ a′ p′ i′ s′ : ℕ} → k ≡ k′ → a ≡ a′ → p ≡ p′ → i ≡ i′ → s ≡ s′
     → _≡_ {A = Figures} (record { kind = k; area = a; peak = p; interval = i; sum = s }) (record { kind = k′; area = a′; peak = p′; interval = i′; sum = s′ })
@@ -82,7 +77,7 @@ module _ (ratio place : ℕ) (r : Result) (fit : Fits r) where
   abbrev peak : ℕ
   peak = peakOf (r .held .flow)
 
-  figure-at : (a n : ℕ) → part (6 + a) n (recordOf ratio place r) ≡ part a n (tail (f .kind) (f .area) peak (f .interval) (f .sum) ratio place)
+  figure-at : (a n : ℕ) → part (6 + a) n (recordOf ratio place r) ≡ part a n (behindName (f .kind) (f .area) peak (f .interval) (f .sum) ratio place)
   figure-at a n = ap (part (6 + a) n) (record-of ratio place r) ∙ figure-part (r .block .name) (f .kind) (f .area) peak (f .interval) (f .sum) ratio place (fit .short) a n
 
   figures-of : figuresOf (recordOf ratio place r) ≡ f

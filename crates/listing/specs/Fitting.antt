@@ -1,5 +1,5 @@
 -- A deck that is worked to its end: what it answers fits the room that is lent for it and its records. Line by line, under all ratios at once.
---     Fitting       of a time control and results: the time control within its limits, no more results than there is room for, as many under each ratio, each with its record
+--     Fitting       of a time control and results: the time control within its limits, some results and no more than there is room for, as many under each ratio, each with its record
 --     done-fits     so is the end of every deck
 use Prim.Native.Nat.{ℕ, zero, suc, _+_, _-_, _*_, _≤_, _<_, max}
 use mathlib.Core.Path.{_≡_, refl, _∙_}
@@ -30,6 +30,7 @@ use Rattle.printing.specs.Listed.{Lots}
 
 pub record Fitting (τ : Time) (rss : List (List Result)) : Type 0 where
   pub time : limits.TimeWithin τ
+  pub some : 0 < blockCount rss
   pub few : blockCount rss ≤ mostBlocks
   pub ratios : length rss ≡ length (ratiosOf τ)
   pub lots : Lots (blockCount rss) rss
@@ -200,7 +201,7 @@ module _ (σ : Time) (b : Block) (s : Standing) (within : limits.TimeWithin σ) 
       let long = length-results runs ∙ runs-long in
       let lots = lots-of σ (depthAfter b (s .waiting)) (s .blocks) runs each-closed in
       let count = first-lot (resultsOf runs) (s .blocks) (omega (arith, long, some-ratio σ)) lots in
-      record { time = within; few = omega (arith, count, in′ .few); ratios = long; lots = rw count lots }
+      record { time = within; some = omega (arith, count, in′ .some); few = omega (arith, count, in′ .few); ratios = long; lots = rw count lots }
 
 -- LINE BY LINE
 step-done : (n line : ℕ) (next : Step) (go : Reading → Standing → Worked) {τ : Time} {rss : List (List Result)} → andThen (stepUnless n line next) go ≡ Done τ rss

@@ -39,7 +39,7 @@ abbrev pub Lots : (blocks : ℕ) → List (List Result) → Type 0
 Lots blocks [] = Unit {0}
 Lots blocks (rs ∷ rss) = ((length rs ≡ blocks) × Each Fits rs) × Lots blocks rss
 
-each-named : (rs : List Result) → Each Fits rs → Each Named rs
+pub each-named : (rs : List Result) → Each Fits rs → Each Named rs
 each-named [] fs = tt
 each-named (r ∷ rs) fs = (fs .0 .short, each-named rs (fs .1))
 
