@@ -1,7 +1,7 @@
 #!/bin/sh
 # command.sh [--program PROGRAM]
 # Tests the command ./hec1: listings, words of refusals, exit status, odd names, standard input, several files,
-# bundles, input and output that fail, and how it builds the program; every transcript of docs/USERS.md; every deck
+# bundles, result files, input and output that fail, and how it builds the program; every transcript of docs/USERS.md; every deck
 # of examples/ against the listing beside it. The last line is 'N passed, M failed', and the exit status agrees.
 #
 # --program, to try this script itself: a program that ./hec1 is to start in place of the proved one.
@@ -27,6 +27,7 @@ else
     # built here, so that no test below sees the words of a first use
     "$hec1" </dev/null >/dev/null
     "$hec1" --bundle </dev/null >/dev/null || { echo "command.sh: there is no proved program" >&2; exit 2; }
+    "$hec1" --to-new </dev/null >/dev/null || { echo "command.sh: there is no proved program" >&2; exit 2; }
 fi
 
 # same NAME EXPECTED GOT: two files must be equal
@@ -240,6 +241,84 @@ if [ -n "$proved" ]; then
 fi
 input "$good"
 try 'a bundle with standard input' 0 "$good_list--\n$good_list--\n" '' "$hec1" --bundle - good.hc1
+
+# ---- result files
+
+# the records of a deck, without JR and with one
+deck_a='*FREE\nIT 60,,,4\nKK A\nQI 1,2\nZZ\n'
+record_a='A     \0002\0000\0000\0000\0000\0000\0000\0016\0047\0007\0000\0000\0000\0000\0002\0000\0000\0000\0000\0225\0272\0012\0000\0000\0000\0000'
+whole='\0144\0000\0001\0000\0000\0000\0000\0000'
+input "$deck_a"
+try 'the records of a deck' 0 "$record_a$whole" '' "$hec1" --records
+printf '%b' "$deck_a" >a.hc1
+try 'the records of a file' 0 "$record_a$whole" '' "$hec1" --records a.hc1
+try 'the records of a file, behind --' 0 "$record_a$whole" '' "$hec1" --records -- a.hc1
+input '*FREE\nIT 60,,,4\nJR PREC,1,2.56,1\nKK A\nQI 1,2\nZZ\n'
+try 'the records of three ratios' 0 "$record_a$whole$record_a\\0000\\0001\\0002\\0000\\0000\\0000\\0000\\0000$record_a\\0144\\0000\\0003\\0000\\0000\\0000\\0000\\0000" '' "$hec1" --records
+input "$bad"
+try 'no records of a refused deck' 1 '' "-$bad_words" "$hec1" --records
+try 'no records of a deck without ZZ' 1 '' "open.hc1$open_words" "$hec1" --records open.hc1
+try 'no records of a long deck' 1 '' 'long.hc1: deck over 60,000 bytes (refusal 2)\n' "$hec1" --records long.hc1
+try 'no records of a missing file' 2 '' 'hec1: none.hc1: no such file\n' "$hec1" --records none.hc1
+try 'records of two files' 2 '' 'hec1: --records takes one file\n' "$hec1" --records a.hc1 a.hc1
+
+# a file moved there and back, and every refusal in words, with nothing on standard output
+input "$record_a$record_a"
+try 'a file in the new form' 0 "$record_a$whole$record_a$whole" '' "$hec1" --to-new
+input "$record_a$whole$record_a$whole"
+try 'and in the old again' 0 "$record_a$record_a" '' "$hec1" --to-old
+input ''
+try 'an empty file in the new form' 0 '' '' "$hec1" --to-new
+try 'an empty file in the old form' 0 '' '' "$hec1" --to-old -
+input "$record_a$whole"
+try 'a new file taken for an old one' 1 '' '-: 40 bytes, which is no whole number of records of 32 (mover, refusal 1)\n' "$hec1" --to-new
+printf '%b' "$record_a" >a.old
+try 'an old file taken for a new one' 1 '' 'a.old: 32 bytes, which is no whole number of records of 40 (mover, refusal 1)\n' "$hec1" --to-old a.old
+not_zero='-: a byte is not zero that every record has as zero: another form, or no result file (mover, refusal 2)\n'
+input 'A     \0002\0001\0000\0000\0000\0000\0000\0016\0047\0007\0000\0000\0000\0000\0002\0000\0000\0000\0000\0225\0272\0012\0000\0000\0000\0000'
+try 'padding in an old file' 1 '' "$not_zero" "$hec1" --to-new
+input "$record_a\\0226\\0000\\0001\\0000\\0000\\0000\\0000\\0000$record_a\\0144\\0000\\0001\\0000\\0000\\0000\\0000\\0001"
+try 'padding behind another ratio in a new file' 1 '' "$not_zero" "$hec1" --to-old
+no_old='a record under another ratio than 1.00, or not the first on its JR, has no old form (mover, refusal 3)\n'
+input "$record_a$whole$record_a\\0226\\0000\\0001\\0000\\0000\\0000\\0000\\0000"
+try 'another ratio' 1 '' "-: $no_old" "$hec1" --to-old
+input "$record_a\\0144\\0000\\0002\\0000\\0000\\0000\\0000\\0000"
+try 'another place' 1 '' "-: $no_old" "$hec1" --to-old
+try 'two files to move' 2 '' 'hec1: --to-old takes one file\n' "$hec1" --to-old a.old a.old
+try 'a folder to move' 2 '' 'hec1: .: is a folder\n' "$hec1" --to-new .
+try 'a missing file to move' 2 '' 'hec1: none.old: no such file\n' "$hec1" --to-new none.old
+head -c 1280000 /dev/zero >long.old
+"$hec1" --to-new long.old >long.new 2>"$scratch/err"
+holds '40,000 records in the new form: status' test $? = 0
+"$hec1" --to-old long.new >long.back 2>"$scratch/err"
+holds 'and in the old again: status' test $? = 0
+holds '40,000 records there: their bytes' test $(($(wc -c <long.new))) = 1600000
+same '40,000 records there and back' long.old long.back
+head -c 1280032 /dev/zero >long.old
+try 'an old file too long to be moved at once' 1 '' \
+    'long.old: over 1,280,000 bytes: cut it between two records, and move the parts (mover, refusal 4)\n' "$hec1" --to-new long.old
+printf 'x' >>long.new
+try 'a new file too long to be moved at once' 1 '' 'long.new: over 1,600,000 bytes: cut it between two records, and move the parts\n' "$hec1" --to-old long.new
+rm -f long.new long.old long.back
+input "$record_a"
+with 'a full device, a moved file' 2 'hec1: standard output: cannot be written to\n' '"$hec1" --to-new >/dev/full'
+
+# every example: its records are those that the second program has, and they move back only without other ratios
+find "$root/examples" -name '*.hc1' | sort >"$scratch/examples"
+while IFS= read -r deck; do
+    "$hec1" --records "$deck" >"$scratch/records"
+    od -An -v -tx1 <"$scratch/records" | tr -d ' \n' >"$scratch/got"
+    "$second" --full <"$deck" | sed -n 3p | head -c $((2 * $(wc -c <"$scratch/records"))) >"$scratch/expected"
+    same "the records of ${deck#"$root/"}" "$scratch/expected" "$scratch/got"
+    "$hec1" --to-old "$scratch/records" >"$scratch/old" 2>"$scratch/err"
+    ended=$?
+    if grep -q '^JR' "$deck"; then
+        holds "${deck#"$root/"} has no old form" test "$ended" = 1 -a ! -s "$scratch/old"
+    else
+        "$hec1" --to-new "$scratch/old" >"$scratch/new"
+        same "${deck#"$root/"}, its records there and back" "$scratch/records" "$scratch/new"
+    fi
+done <"$scratch/examples"
 
 # ---- what docs/USERS.md says in its sentences
 
