@@ -1,6 +1,5 @@
 -- Each test is the next of the definition.
-use mathlib.Core.Path.{_≡_}
-use mathlib.Core.Bool.{Bool, or-false}
+use mathlib.Core.Bool.{or-false}
 use borrow.Author.Tests.{eq-eqb, ne-eqb}
 use borrow.Author.Needs.{needs}
 use lib.ListN.{getD}
