@@ -1,5 +1,5 @@
 -- What comes back of a file: the room's bytes behind those that were moved are zeros, or all of it is.
---     zeros-behind                zeros written behind the first bytes of the room
+--     zeros-all, zeros-behind     zeros written in all of the room, and behind its first bytes
 --     way-judged                  the refusals in their order, with the room for as many bytes as are moved
 --     way-refused, way-moved      what comes of a file by its refusal, either way
 --     way-room                    a file that is not refused has its room
@@ -18,6 +18,9 @@ use Rattle.moving.specs.Answers.{outcomeIs, refusedIn, movedIn, unless-r
 use Rattle.moving.specs.Records.{movedBy, length-moved}
 use Rattle.moving.specs.Loops.{MovedTo}
 use Rattle.moving.specs.Ways.{refusalOf, Way}
+
+pub zeros-all : (number : ℕ) (room : List ℕ) {zeros : List ℕ} → zeros ≡ replicate (length room) 0 → outcomeIs (move.Refused number) zeros ≡ refusedIn number (length room)
+zeros-all number room e = rw e
 
 pub zeros-behind : (n : ℕ) (room : List ℕ) {zeros : List ℕ} → n ≤ length room → zeros ≡ replicate (length (part n (length room - n) room)) 0
     → outcomeIs (move.Moved n) (put n (length room - n) room zeros) ≡ movedIn (take n room) (length room)

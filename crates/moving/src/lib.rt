@@ -108,7 +108,7 @@ fn find_fault(file: &[u8]) -> u64
     while at + RECORD <= file.len() {
         let fault = fault_of(&file[at..at + RECORD]);
         if fault == 2 {
-            return 2;
+            return fault;
         }
         found = keep_first(found, fault);
         at += RECORD;

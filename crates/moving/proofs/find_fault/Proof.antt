@@ -11,13 +11,13 @@ use Rattle.moving.proofs.find_fault.Statement.{statement}
 use Rattle.moving.proofs.find_fault.Tie as tie
 
 abbrev Inv-loop : tie.InvT-loop
-Inv-loop file found₀ at₀ found at = (at ≤ length file) × (faultAfter found (recordsIn recordSize (drop at file)) ≡ oldFaults (recordsIn recordSize file))
+Inv-loop file found₀ at₀ found at = (faultAfter found (recordsIn recordSize (drop at file)) ≡ oldFaults (recordsIn recordSize file)) × (at ≤ length file)
 
 abbrev μ-loop : tie.MeasureT-loop
 μ-loop file found₀ at₀ found at = length file - at
 
 loop-holds : tie.Need-loop-holds Inv-loop μ-loop
-loop-holds c = (omega arith, refl)
+loop-holds c = (refl, omega arith)
 
 fault-of-requires : tie.Need-fault-of-requires Inv-loop μ-loop
 fault-of-requires c κs =
@@ -36,19 +36,19 @@ returns : tie.Need-returns Inv-loop μ-loop
 returns c =
     let test = c .before .before .before in
     let l = test .before .loop in
-    sym (pass-stops (l .found) (test .before .before .before .args .file .now) (l .at) (test .loop-test .taken) (sym (told (c .before)) ∙ c .if1 .taken)) ∙ l .inv .1
+    c .if1 .taken ∙ sym (pass-stops (l .found) (test .before .before .before .args .file .now) (l .at) (test .loop-test .taken) (sym (told (c .before)) ∙ c .if1 .taken)) ∙ l .inv .0
 
 loop-again : tie.Need-loop-again Inv-loop μ-loop
 loop-again c =
     let test = c .before .before .before .before in
     let l = test .before .loop in
     let turn = pass-goes (l .found) (test .before .before .before .args .file .now) (l .at) (test .loop-test .taken) (told (c .before .before)) (c .before .if1 .left) (c .keep-first .ensures) in
-    (omega arith, sym turn ∙ l .inv .1)
+    (sym turn ∙ l .inv .0, omega arith)
 
 returns-2 : tie.Need-returns-2 Inv-loop μ-loop
 returns-2 c =
     let l = c .before .loop in
-    sym (pass-ends (l .found) (c .before .before .before .args .file .now) (l .at) (c .loop-test .left)) ∙ l .inv .1
+    sym (pass-ends (l .found) (c .before .before .before .args .file .now) (l .at) (c .loop-test .left)) ∙ l .inv .0
 
 pub find-fault-spec : {M : Type 1} → statement M
 find-fault-spec =

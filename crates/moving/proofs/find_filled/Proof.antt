@@ -11,13 +11,13 @@ use Rattle.moving.proofs.find_filled.Statement.{statement}
 use Rattle.moving.proofs.find_filled.Tie as tie
 
 abbrev Inv-loop : tie.InvT-loop
-Inv-loop file at₀ at = (at ≤ length file) × (newFaults (recordsIn oldRecordSize (drop at file)) ≡ newFaults (recordsIn oldRecordSize file))
+Inv-loop file at₀ at = (newFaults (recordsIn oldRecordSize (drop at file)) ≡ newFaults (recordsIn oldRecordSize file)) × (at ≤ length file)
 
 abbrev μ-loop : tie.MeasureT-loop
 μ-loop file at₀ at = length file - at
 
 loop-holds : tie.Need-loop-holds Inv-loop μ-loop
-loop-holds c = (omega arith, refl)
+loop-holds c = (refl, omega arith)
 
 is-filled-requires : tie.Need-is-filled-requires Inv-loop μ-loop
 is-filled-requires c κs =
@@ -37,18 +37,18 @@ returns : tie.Need-returns Inv-loop μ-loop
 returns c =
     let test = c .before .before .before in
     let l = test .before .loop in
-    sym (filled-stops (test .before .before .before .args .file .now) (l .at) (test .loop-test .taken) (told (c .before) ∙ c .if1 .taken)) ∙ l .inv .1
+    sym (filled-stops (test .before .before .before .args .file .now) (l .at) (test .loop-test .taken) (told (c .before) ∙ c .if1 .taken)) ∙ l .inv .0
 
 loop-again : tie.Need-loop-again Inv-loop μ-loop
 loop-again c =
     let test = c .before .before .before in
     let l = test .before .loop in
-    (omega arith, sym (filled-goes (test .before .before .before .args .file .now) (l .at) (test .loop-test .taken) (told (c .before) ∙ c .if1 .left)) ∙ l .inv .1)
+    (sym (filled-goes (test .before .before .before .args .file .now) (l .at) (test .loop-test .taken) (told (c .before) ∙ c .if1 .left)) ∙ l .inv .0, omega arith)
 
 returns-2 : tie.Need-returns-2 Inv-loop μ-loop
 returns-2 c =
     let l = c .before .loop in
-    sym (filled-ends (c .before .before .before .args .file .now) (l .at) (c .loop-test .left)) ∙ l .inv .1
+    sym (filled-ends (c .before .before .before .args .file .now) (l .at) (c .loop-test .left)) ∙ l .inv .0
 
 pub find-filled-spec : {M : Type 1} → statement M
 find-filled-spec =
