@@ -1,37 +1,39 @@
--- What a file is refused for, and the pass over a new file's records that finds 2 and 3 at once.
---     faultOf, faultIn             of one record of the new form, and of records
+-- What a file is refused for by its records, and the passes that find it.
+--     newFaults                    2: of records that are to become new
+--     faultOf, oldFaults           2 and 3: of one record that is to become old, and of records
+--     filled-more                  padding in two parts
+--     fault-front, fault-tail, fault-other, fault-none     one record, by its tests
 --     faultAfter                   of the records that are left, where a refusal was found in those before
---     fault-front, fault-tail, fault-other, fault-none      a record's, by its tests
 --     fault-stops, fault-goes      a record that the pass ends at, and one that it goes on from
---     filled-more                  the padding of the new form is that of the old, and that behind the place
 --     first-some                   of two refusals the first, where it is one
---     any-stops, any-goes, any-ends      the pass over the old form, at a place
---     pass-stops, pass-goes, pass-ends   the pass over the new form, at a place
---     refusal-apart                of a new file, with what that pass finds
---     newRefusal, oldRefusal       of a whole file that is to become new, or old, in a room
+--     filled-stops, filled-goes, filled-ends      the pass over an old file, at a place
+--     pass-stops, pass-goes, pass-ends            the pass over a new file, at a place
 use Prim.Native.Nat.{ℕ, zero, suc, _+_, _≤_, _<_}
 use mathlib.Core.Path.{_≡_, refl, sym, ap, _∙_}
 use mathlib.Core.Bool.{Bool, true, false, not, _||_, or-assoc}
-use mathlib.Core.List.{List, [], _∷_, _++_, map}
+use mathlib.Core.List.{List, [], _∷_, _++_}
 use native.Mathlib.Omega.{arith}
 use lib.ListN.{length, drop, getD}
 use Rattle.meaning.specs.Words.{_=?_, met, first}
 use Rattle.meaning.specs.Results.{recordSize, oldRecordSize}
-use Rattle.meaning.specs.Moving.{oldPadding, newPadding, newForm, oldForm, recordsIn, filled, anyFilled, otherRatio, anyOther, lengthRefusal, roomRefusal}
+use Rattle.meaning.specs.Moving.{oldPadding, newPadding, recordsIn, filled, anyFilled, otherRatio, anyOther}
 use Rattle.sequences.specs.Parts.{part}
 use Rattle.sequences.specs.Refusals.{none-after}
-use Rattle.moving.specs.Records.{movedBy, records-more, records-none}
+use Rattle.moving.specs.Records.{records-more, records-none}
 use Rattle.moving.specs.Tests.{tailPadding}
 
 pub filled-more : (ps qs : List ℕ) (r : List ℕ) → filled (ps ++ qs) r ≡ (filled ps r || filled qs r)
 filled-more [] qs r = refl
 filled-more (p ∷ ps) qs r = rw (filled-more ps qs r) (sym (or-assoc (not (getD r p 0 =? 0)) (filled ps r) (filled qs r)))
 
+abbrev pub newFaults : List (List ℕ) → ℕ
+newFaults rs = met (anyFilled oldPadding rs) 2
+
 abbrev pub faultOf : List ℕ → ℕ
 faultOf r = first (met (filled newPadding r) 2) (met (otherRatio r) 3)
 
-abbrev pub faultIn : List (List ℕ) → ℕ
-faultIn rs = first (met (anyFilled newPadding rs) 2) (met (anyOther rs) 3)
+abbrev pub oldFaults : List (List ℕ) → ℕ
+oldFaults rs = first (met (anyFilled newPadding rs) 2) (met (anyOther rs) 3)
 
 abbrev pub faultAfter : (found : ℕ) → List (List ℕ) → ℕ
 faultAfter found rs = first (met (anyFilled newPadding rs) 2) (first found (met (anyOther rs) 3))
@@ -78,40 +80,28 @@ module _ (found : ℕ) (r : List ℕ) (rs : List (List ℕ)) where
   fault-goes e = go (filled newPadding r) (otherRatio r) found e
     where
       go : (f o : Bool) (n : ℕ) → (first (met f 2) (met o 3) ≡ 2 → ⊥)
-          → first (met (f || anyFilled newPadding rs) 2) (first n (met (o || anyOther rs) 3)) ≡ first (met (anyFilled newPadding rs) 2) (first (first n (first (met f 2) (met o 3))) (met (anyOther rs) 3))
+          → first (met (f || anyFilled newPadding rs) 2) (first n (met (o || anyOther rs) 3))
+          ≡ first (met (anyFilled newPadding rs) 2) (first (first n (first (met f 2) (met o 3))) (met (anyOther rs) 3))
       go true o n h = absurd (h refl)
       go false true zero h = refl
       go false true (suc n) h = refl
       go false false zero h = refl
       go false false (suc n) h = refl
 
-abbrev pub newRefusal : (file : List ℕ) → (room : ℕ) → ℕ
-newRefusal file room =
-    first (lengthRefusal oldRecordSize file)
-    (first (met (anyFilled oldPadding (recordsIn oldRecordSize file)) 2)
-    (roomRefusal room (movedBy newForm oldRecordSize file)))
-
-abbrev pub oldRefusal : (file : List ℕ) → (room : ℕ) → ℕ
-oldRefusal file room =
-    first (lengthRefusal recordSize file)
-    (first (met (anyFilled newPadding (recordsIn recordSize file)) 2)
-    (first (met (anyOther (recordsIn recordSize file)) 3)
-    (roomRefusal room (movedBy oldForm recordSize file))))
-
 -- the pass over an old file's records, from a place on
-module _ (padding : List ℕ) (size : ℕ) (file : List ℕ) (p : ℕ) (some : 0 < size) where
-  pub any-stops : p + size ≤ length file → filled padding (part p size file) ≡ true → anyFilled padding (recordsIn size (drop p file)) ≡ true
+module _ (file : List ℕ) (p : ℕ) where
+  pub filled-stops : p + oldRecordSize ≤ length file → filled oldPadding (part p oldRecordSize file) ≡ true → newFaults (recordsIn oldRecordSize (drop p file)) ≡ 2
   unfolding anyFilled
-  any-stops whole e = rw (records-more size file p some whole, e)
+  filled-stops whole e = rw (records-more oldRecordSize file p (omega arith) whole, e)
 
-  pub any-goes : p + size ≤ length file → filled padding (part p size file) ≡ false
-      → anyFilled padding (recordsIn size (drop p file)) ≡ anyFilled padding (recordsIn size (drop (p + size) file))
+  pub filled-goes : p + oldRecordSize ≤ length file → filled oldPadding (part p oldRecordSize file) ≡ false
+      → newFaults (recordsIn oldRecordSize (drop p file)) ≡ newFaults (recordsIn oldRecordSize (drop (p + oldRecordSize) file))
   unfolding anyFilled
-  any-goes whole e = rw (records-more size file p some whole, e)
+  filled-goes whole e = rw (records-more oldRecordSize file p (omega arith) whole, e)
 
-  pub any-ends : length file < p + size → anyFilled padding (recordsIn size (drop p file)) ≡ false
+  pub filled-ends : length file < p + oldRecordSize → newFaults (recordsIn oldRecordSize (drop p file)) ≡ 0
   unfolding anyFilled
-  any-ends short = rw (records-none size file p some short)
+  filled-ends short = rw (records-none oldRecordSize file p (omega arith) short)
 
 -- the pass over a new file's records, from a place on
 module _ (found : ℕ) (file : List ℕ) (p : ℕ) where
@@ -129,14 +119,3 @@ module _ (found : ℕ) (file : List ℕ) (p : ℕ) where
   pub pass-ends : length file < p + recordSize → faultAfter found (recordsIn recordSize (drop p file)) ≡ found
   unfolding anyFilled anyOther
   pass-ends short = ap (faultAfter found) (records-none recordSize file p (omega arith) short) ∙ none-after found
-
--- 2 and 3 as one pass finds them
-first-of-three : (l m n : ℕ) → first l (first m n) ≡ first (first l m) n
-first-of-three zero m n = refl
-first-of-three (suc l) m n = refl
-
-pub refusal-apart : (file : List ℕ) (room : ℕ)
-    → oldRefusal file room ≡ first (lengthRefusal recordSize file) (first (faultIn (recordsIn recordSize file)) (roomRefusal room (movedBy oldForm recordSize file)))
-refusal-apart file room =
-    ap (first (lengthRefusal recordSize file))
-    (first-of-three (met (anyFilled newPadding (recordsIn recordSize file)) 2) (met (anyOther (recordsIn recordSize file)) 3) (roomRefusal room (movedBy oldForm recordSize file)))

@@ -4,12 +4,12 @@
 --     records-joined                 the records of a file that is made of records, and of what stands behind it
 --     sized-records, joined-records  a file's records have the size, and make the file where it is whole
 --     join-files                     two files one behind the other, of their records
-use Prim.Native.Nat.{ℕ, zero, suc, _+_, _-_, _*_, _/_, _%_, _≤_, _<_}
+use Prim.Native.Nat.{ℕ, zero, suc, _+_, _*_, _/_, _%_, _≤_, _<_}
 use mathlib.Core.Path.{_≡_, refl, sym, ap, _∙_}
 use mathlib.Core.List.{List, [], _∷_, _++_, append-nil, append-assoc, map}
 use native.Mathlib.Nat.{suc-mul, div-mul-le-self, div-add-mod', mul-mod-left}
 use native.Mathlib.Omega.{arith}
-use lib.ListN.{length, take, drop, length-append, length-drop, take-append-drop}
+use lib.ListN.{length, drop, length-append, length-drop, take-append-drop}
 use lib.Seq.{length-take-le, take-at, drop-at}
 use Rattle.meaning.specs.Moving.{recordsFrom, recordsIn, joined}
 use Rattle.moving.specs.Records.{first-record, no-record, Makes}
@@ -43,7 +43,13 @@ module _ (size : ℕ) where
     records-joined [] b h = refl
     records-joined (r ∷ rs) b h =
         let long : size ≤ length (r ++ (joined rs ++ b)) = simp length-append (omega (arith, h .0)) in
-        rw (append-assoc r (joined rs) b, first-record size (r ++ (joined rs ++ b)) some long, take-at r (joined rs ++ b) size (h .0), drop-at r (joined rs ++ b) size (h .0), records-joined rs b (h .1))
+        rw (
+          append-assoc r (joined rs) b,
+          first-record size (r ++ (joined rs ++ b)) some long,
+          take-at r (joined rs ++ b) size (h .0),
+          drop-at r (joined rs ++ b) size (h .0),
+          records-joined rs b (h .1),
+        )
 
     pub records-of : (rs : List (List ℕ)) → Sized size rs → recordsIn size (joined rs) ≡ rs
     records-of rs h =

@@ -5,6 +5,7 @@ pub mod Loops
 pub mod Forms
 pub mod Tests
 pub mod Faults
+pub mod Ways
 pub mod Outcomes
 pub mod Joined
 pub mod Movers

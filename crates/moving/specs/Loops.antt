@@ -4,11 +4,11 @@
 --     moving-starts, moving-fits, moving-goes, moving-ends     before the first turn; there is room for one record more; a turn; after the last
 use Prim.Native.Nat.{ℕ, _+_, _≤_, _<_}
 use mathlib.Core.Path.{_≡_, refl, sym, ap, _∙_}
-use mathlib.Core.List.{List, [], _∷_, _++_, append-nil, append-assoc, map}
+use mathlib.Core.List.{List, [], _++_, append-nil, append-assoc, map}
 use native.Mathlib.Omega.{arith}
-use lib.ListN.{length, take, drop, length-append, length-drop, take-append-drop}
+use lib.ListN.{length, take, drop, length-append, take-append-drop}
 use lib.Seq.{length-take-le, drop-drop}
-use Rattle.meaning.specs.Moving.{recordsIn, joined}
+use Rattle.meaning.specs.Moving.{joined}
 use Rattle.sequences.specs.Parts.{part, put, length-part, length-put, take-through, drop-put}
 use Rattle.moving.specs.Records.{records-more, records-none, movedBy, Makes}
 

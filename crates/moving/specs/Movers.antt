@@ -1,88 +1,25 @@
--- Both ways of moving are one, over the size of a record, the form that it gets and what is refused in records.
---     mover                          the way; is-new, is-old: the two of them
---     Way                            what the laws below ask of a way; new-way, old-way
+-- Laws of either way of moving.
 --     Accepted, accepted, front      what an answer with a count of bytes tells, and the bytes
 --     records-move, records-refused  a file that is made of records, without a fault and with one
 --     both-move, either-refused      two files, one behind the other
 --     go-back                        one way and then the other
 use Prim.Native.Nat.{ℕ, zero, suc, _+_, _-_, _%_, _≤_, _<_}
 use mathlib.Core.Path.{_≡_, refl, sym, ap, _∙_}
-use mathlib.Core.Bool.{Bool, true, false, _||_, or-assoc}
-use mathlib.Core.List.{List, [], _∷_, _++_, map, map-append}
+use mathlib.Core.Bool.{Bool, true, false}
+use mathlib.Core.List.{List, _++_, map, map-append}
 use mathlib.Core.Logic.{_⊎_, inl, inr, ⊎-elim}
 use native.Mathlib.Omega.{arith}
-use borrow.Author.Tests.{eq-eqb, le-ltb, eqb-true, ltb-false, not-false}
+use borrow.Author.Tests.{eq-eqb, le-ltb, eqb-true, not-false}
 use lib.ListN.{length, take, replicate, length-append}
 use lib.Seq.{take-at}
 use Rattle.meaning.specs.Words.{_=?_, _<?_, met, first}
-use Rattle.meaning.specs.Results.{recordSize, oldRecordSize}
-use Rattle.meaning.specs.Moving.{oldPadding, newPadding, newForm, oldForm, recordsIn, joined, filled, anyFilled, otherRatio, anyOther, lengthRefusal, roomRefusal}
-use Rattle.meaning.specs.Moving.{Move, Moved, Unmoved, Outcome, movedUnless, toNew, toOld}
+use Rattle.meaning.specs.Moving.{recordsIn, joined, lengthRefusal, roomRefusal}
+use Rattle.meaning.specs.Moving.{Move, Moved, Unmoved, Outcome, movedUnless}
 use Rattle.sequences.specs.Refusals.{neither-met, not-met}
 use Rattle.moving.specs.Answers.{refusedIn, movedIn, unless-moved}
-use Rattle.moving.specs.Records.{movedBy, Makes}
-use Rattle.moving.specs.Forms.{new-makes, old-makes}
+use Rattle.moving.specs.Records.{movedBy}
 use Rattle.moving.specs.Joined.{Sized, joined-append, sized-map, sized-append, whole-joined, records-of, sized-records, joined-records, join-files}
-use Rattle.moving.specs.Faults.{faultIn, refusal-apart}
-
-abbrev pub moverRefusal : (size : ℕ) (form : List ℕ → List ℕ) (faults : List (List ℕ) → ℕ) → (file : List ℕ) → (room : ℕ) → ℕ
-moverRefusal size form faults file room = first (lengthRefusal size file) (first (faults (recordsIn size file)) (roomRefusal room (movedBy form size file)))
-
-abbrev pub mover : (size : ℕ) (form : List ℕ → List ℕ) (faults : List (List ℕ) → ℕ) → (file : List ℕ) → (room : ℕ) → Outcome
-mover size form faults file room = movedUnless (moverRefusal size form faults file room) (movedBy form size file) room
-
--- what an old file is refused for by its records
-abbrev pub newFaults : List (List ℕ) → ℕ
-newFaults rs = met (anyFilled oldPadding rs) 2
-
-is-new : (file : List ℕ) (room : ℕ) → toNew file room ≡ mover oldRecordSize newForm newFaults file room
-unfolding toNew movedBy
-is-new file room = refl
-
-is-old : (file : List ℕ) (room : ℕ) → toOld file room ≡ mover recordSize oldForm faultIn file room
-unfolding toOld movedBy
-is-old file room = ap (λ (n : ℕ). movedUnless n (movedBy oldForm recordSize file) room) (refusal-apart file room)
-
--- what is looked for in any record of two files is looked for in each
-pub any-filled-append : (padding : List ℕ) (rs ss : List (List ℕ)) → anyFilled padding (rs ++ ss) ≡ (anyFilled padding rs || anyFilled padding ss)
-unfolding anyFilled
-any-filled-append padding [] ss = refl
-any-filled-append padding (r ∷ rs) ss = rw (any-filled-append padding rs ss) (sym (or-assoc (filled padding r) (anyFilled padding rs) (anyFilled padding ss)))
-
-pub any-other-append : (rs ss : List (List ℕ)) → anyOther (rs ++ ss) ≡ (anyOther rs || anyOther ss)
-unfolding anyOther
-any-other-append [] ss = refl
-any-other-append (r ∷ rs) ss = rw (any-other-append rs ss) (sym (or-assoc (otherRatio r) (anyOther rs) (anyOther ss)))
-
-new-either : (rs ss : List (List ℕ)) (k : ℕ) → newFaults (rs ++ ss) ≡ suc k → (newFaults rs ≡ suc k) ⊎ (newFaults ss ≡ suc k)
-new-either rs ss k e = go (anyFilled oldPadding rs) (anyFilled oldPadding ss) (rw (any-filled-append oldPadding rs ss) at e)
-  where
-    go : (f g : Bool) → met (f || g) 2 ≡ suc k → (met f 2 ≡ suc k) ⊎ (met g 2 ≡ suc k)
-    go true g h = inl h
-    go false g h = inr h
-
-old-either : (rs ss : List (List ℕ)) (k : ℕ) → faultIn (rs ++ ss) ≡ suc k → (faultIn rs ≡ suc k) ⊎ (faultIn ss ≡ suc k)
-old-either rs ss k e =
-    go (anyFilled newPadding rs) (anyFilled newPadding ss) (anyOther rs) (anyOther ss) (rw (any-filled-append newPadding rs ss, any-other-append rs ss) at e)
-  where
-    go : (f g o p : Bool) → first (met (f || g) 2) (met (o || p) 3) ≡ suc k
-        → (first (met f 2) (met o 3) ≡ suc k) ⊎ (first (met g 2) (met p 3) ≡ suc k)
-    go true g o p h = inl h
-    go false true o p h = inr h
-    go false false true p h = inl h
-    go false false false p h = inr h
-
-pub record Way (size to : ℕ) (form : List ℕ → List ℕ) (faults : List (List ℕ) → ℕ) (way : List ℕ → ℕ → Outcome) : Type 0 where
-  pub some : 0 < size
-  pub makes : Makes form size to
-  pub either : (rs ss : List (List ℕ)) (k : ℕ) → faults (rs ++ ss) ≡ suc k → (faults rs ≡ suc k) ⊎ (faults ss ≡ suc k)
-  pub is : (file : List ℕ) (room : ℕ) → way file room ≡ mover size form faults file room
-
-pub new-way : Way oldRecordSize recordSize newForm newFaults toNew
-new-way = record { some = omega arith; makes = new-makes; either = new-either; is = is-new }
-
-pub old-way : Way recordSize oldRecordSize oldForm faultIn toOld
-old-way = record { some = omega arith; makes = old-makes; either = old-either; is = is-old }
+use Rattle.moving.specs.Ways.{refusalOf, mover, Way}
 
 -- an answer with a count is no refusal, and one with a number is that refusal
 counted : (number : ℕ) (moved : List ℕ) (room n : ℕ) → movedUnless number moved room .answer ≡ Moved n → (number ≡ 0) × (n ≡ length moved)
@@ -106,14 +43,14 @@ module _ {size to : ℕ} {form : List ℕ → List ℕ} {faults : List (List ℕ
   pub accepted : (file : List ℕ) (room n : ℕ) → way file room .answer ≡ Moved n → Accepted size form faults file n (way file room) room
   accepted file room n h =
       let moved = movedBy form size file in
-      let told = counted (moverRefusal size form faults file room) moved room n (answer-is file room h) in
+      let told = counted (refusalOf size form faults file room) moved room n (answer-is file room h) in
       let chain = neither-met (lengthRefusal size file) _ (told .0) in
       let after = neither-met (faults (recordsIn size file)) _ (chain .1) in
       record {
         whole = eqb-true (length file % size) 0 (not-false (length file % size =? 0) (not-met _ 0 (chain .0)));
         sound = after .0;
         count = told .1;
-        comes = w .is file room ∙ unless-moved (moverRefusal size form faults file room) moved room (told .0);
+        comes = w .is file room ∙ unless-moved (refusalOf size form faults file room) moved room (told .0);
       }
 
   -- the moved bytes stand first in the room
@@ -127,7 +64,7 @@ module _ {size to : ℕ} {form : List ℕ → List ℕ} {faults : List (List ℕ
   unfolding movedBy
   moved-records rs h = ap (λ (l : List (List ℕ)). joined (map form l)) (records-of size (w .some) rs h)
 
-  refusal-of : (rs : List (List ℕ)) (room : ℕ) → Sized size rs → moverRefusal size form faults (joined rs) room ≡ first (faults rs) (roomRefusal room (joined (map form rs)))
+  refusal-of : (rs : List (List ℕ)) (room : ℕ) → Sized size rs → refusalOf size form faults (joined rs) room ≡ first (faults rs) (roomRefusal room (joined (map form rs)))
   refusal-of rs room h = rw (eq-eqb (length (joined rs) % size) 0 (whole-joined size rs h), records-of size (w .some) rs h, moved-records rs h)
 
   pub records-move : (rs : List (List ℕ)) (room : ℕ) → Sized size rs → faults rs ≡ 0 → length (joined (map form rs)) ≤ room
@@ -183,7 +120,7 @@ module _ {size to : ℕ} {form : List ℕ → List ℕ} {faults : List (List ℕ
     unfolding records-both
     either-refused wa wb room number h =
         let told =
-        numbered (moverRefusal size form faults (joined records-both) room) (movedBy form size (joined records-both)) room number
+        numbered (refusalOf size form faults (joined records-both) room) (movedBy form size (joined records-both)) room number
         (answer-is (joined records-both) room (ap (λ (l : List ℕ). way l room .answer) (sym (join-files size a b wa wb)) ∙ h)) in
         go (faults records-both) refl (room <? length (joined (map form records-both))) (sym (refusal-of records-both room sized-both) ∙ told .0) (told .1)
       where

@@ -4,8 +4,8 @@
 --     movedBy                        the records, each put into another form, one behind another
 --     length-moved                   how many bytes these are, where the form makes so many of a record
 use Prim.Native.Nat.{ℕ, zero, suc, _+_, _-_, _*_, _/_, _≤_, _<_}
-use mathlib.Core.Path.{_≡_, refl, sym, ap, _∙_}
-use mathlib.Core.List.{List, [], _∷_, _++_, map}
+use mathlib.Core.Path.{_≡_, sym, ap, _∙_}
+use mathlib.Core.List.{List, [], _∷_, map}
 use native.Mathlib.Nat.{div-eq-sub-div, div-eq-of-lt, div-mul-le-self, suc-mul}
 use native.Mathlib.Numerals.{add-one}
 use native.Mathlib.Omega.{arith}

@@ -5,7 +5,7 @@
 --     records-to-new, records-to-old     a file made of records moves where none has a fault and there is room
 --     records-filled-new, records-filled, records-other     .. and is refused where one has
 use Prim.Native.Nat.{ℕ, _+_, _-_, _%_, _≤_}
-use mathlib.Core.Path.{_≡_, refl}
+use mathlib.Core.Path.{_≡_}
 use mathlib.Core.Bool.{true, false}
 use mathlib.Core.List.{List, _++_, map}
 use mathlib.Core.Logic.{_⊎_}
@@ -13,7 +13,8 @@ use lib.ListN.{length, take, replicate}
 use Rattle.meaning.specs.Results.{recordSize, oldRecordSize}
 use Rattle.meaning.specs.Moving.{oldPadding, newPadding, newForm, oldForm, joined, anyFilled, anyOther, Moved, Unmoved, toNew, toOld}
 use Rattle.moving.specs.Joined.{Sized}
-use Rattle.moving.specs.Movers.{new-way, old-way, records-move, records-refused, both-move, either-refused, go-back}
+use Rattle.moving.specs.Ways.{new-way, old-way}
+use Rattle.moving.specs.Movers.{records-move, records-refused, both-move, either-refused, go-back}
 use Rattle.moving.specs.Undone.{new-sound, new-undone, old-sound, old-undone}
 
 -- THERE AND BACK. A file of the old form that was moved: the bytes that were written, moved back into room enough, are the file, with zeros behind it.

@@ -1,23 +1,22 @@
 -- The two forms undo each other, and what is refused in one form is in the other.
 --     new-sound, new-undone     old records in the new form have no fault of it, and in the old form again are as they were
 --     old-sound, old-undone     new records without fault in the old form have none of it, and in the new form again are as they were
-use Prim.Native.Nat.{ℕ, zero, suc, _+_, _≤_, _<_}
+use Prim.Native.Nat.{ℕ, _+_, _<_}
 use mathlib.Core.Path.{_≡_, refl, sym, ap, _∙_}
-use mathlib.Core.Bool.{Bool, true, false, not, _&&_, _||_, or-false, false≢true, true≢false}
+use mathlib.Core.Bool.{Bool, true, false, not, _||_, false≢true}
 use mathlib.Core.List.{List, [], _∷_, _++_, append-assoc, map}
 use native.Mathlib.Omega.{arith}
 use borrow.Author.Tests.{eqb-true, not-false}
-use lib.ListN.{length, take, drop, getD, length-append, length-drop, take-append-drop, List·getD-append}
-use lib.Seq.{length-take-le, take-all, take-at, drop-at, drop-drop, getD-append-add, getD-take, getD-drop}
-use Rattle.meaning.specs.Words.{_=?_, same, met, first}
+use lib.ListN.{length, take, drop, getD, length-drop, take-append-drop, List·getD-append}
+use lib.Seq.{take-all, take-at, drop-at, drop-drop, getD-append-add, getD-take, getD-drop}
+use Rattle.meaning.specs.Words.{_=?_, same, met}
 use Rattle.meaning.specs.Results.{littleEndian, recordSize, oldRecordSize}
 use Rattle.meaning.specs.Moving.{oldPadding, newPadding, wholeRatio, newForm, oldForm, filled, anyFilled, otherRatio, anyOther}
 use Rattle.sequences.specs.Choices.{both-hold, both-fail}
 use Rattle.sequences.specs.Refusals.{neither-met, not-met}
 use Rattle.moving.specs.Tests.{tailPadding, four-bytes}
 use Rattle.moving.specs.Joined.{Sized}
-use Rattle.moving.specs.Faults.{faultIn, filled-more}
-use Rattle.moving.specs.Movers.{newFaults}
+use Rattle.moving.specs.Faults.{newFaults, oldFaults, filled-more}
 
 -- what stands behind the old bytes
 abbrev behind : List ℕ
@@ -65,7 +64,7 @@ unfolding anyOther
 none-other [] h = refl
 none-other (r ∷ rs) h = rw (ratio-whole r (h .0), none-other rs (h .1))
 
-pub new-sound : (rs : List (List ℕ)) → Sized oldRecordSize rs → newFaults rs ≡ 0 → faultIn (map newForm rs) ≡ 0
+pub new-sound : (rs : List (List ℕ)) → Sized oldRecordSize rs → newFaults rs ≡ 0 → oldFaults (map newForm rs) ≡ 0
 new-sound rs h sound = rw (any-kept rs h, none-other rs h, not-met (anyFilled oldPadding rs) 1 sound)
 
 pub new-undone : (rs : List (List ℕ)) → Sized oldRecordSize rs → newFaults rs ≡ 0 → map oldForm (map newForm rs) ≡ rs
@@ -121,13 +120,13 @@ each-again (r ∷ rs) h clean plain =
     let and = both-fail (otherRatio r) (anyOther rs) plain in
     rw (new-again r (h .0) (both .0) (and .0), each-again rs (h .1) (both .1) (and .1))
 
-none-met : (rs : List (List ℕ)) → faultIn rs ≡ 0 → (anyFilled newPadding rs ≡ false) × (anyOther rs ≡ false)
+none-met : (rs : List (List ℕ)) → oldFaults rs ≡ 0 → (anyFilled newPadding rs ≡ false) × (anyOther rs ≡ false)
 none-met rs sound =
     let both = neither-met (met (anyFilled newPadding rs) 2) (met (anyOther rs) 3) sound in
     (not-met (anyFilled newPadding rs) 1 (both .0), not-met (anyOther rs) 2 (both .1))
 
-pub old-sound : (rs : List (List ℕ)) → Sized recordSize rs → faultIn rs ≡ 0 → newFaults (map oldForm rs) ≡ 0
+pub old-sound : (rs : List (List ℕ)) → Sized recordSize rs → oldFaults rs ≡ 0 → newFaults (map oldForm rs) ≡ 0
 old-sound rs h sound = rw (any-clean rs h (none-met rs sound .0))
 
-pub old-undone : (rs : List (List ℕ)) → Sized recordSize rs → faultIn rs ≡ 0 → map newForm (map oldForm rs) ≡ rs
+pub old-undone : (rs : List (List ℕ)) → Sized recordSize rs → oldFaults rs ≡ 0 → map newForm (map oldForm rs) ≡ rs
 old-undone rs h sound = each-again rs h (none-met rs sound .0) (none-met rs sound .1)

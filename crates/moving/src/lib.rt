@@ -3,20 +3,24 @@ ghost use mathlib.Core.Path.{_≡_};
 ghost use mathlib.Core.List.{_++_};
 ghost use Prim.Native.Nat.{_≤_};
 ghost use lib.ListN.{length, take, drop};
-ghost use Rattle.meaning.specs.Words.{first};
+ghost use Rattle.meaning.specs.Words.{_<?_, met, first};
 ghost use Rattle.meaning.specs.Results.{recordSize, oldRecordSize};
-ghost use Rattle.meaning.specs.Moving.{oldPadding, newForm, oldForm, recordsIn, filled, anyFilled, otherRatio, toNew, toOld};
+ghost use Rattle.meaning.specs.Moving.{oldPadding, newForm, oldForm, recordsIn, filled, otherRatio, toNew, toOld};
 ghost use Rattle.moving.specs.Answers.{outcomeIs, refusedIn, movedIn};
 ghost use Rattle.moving.specs.Records.{movedBy};
 ghost use Rattle.moving.specs.Loops.{MovedTo};
 ghost use Rattle.moving.specs.Tests.{tailPadding};
-ghost use Rattle.moving.specs.Faults.{faultOf, faultIn, newRefusal, oldRefusal};
+ghost use Rattle.moving.specs.Faults.{faultOf, newFaults, oldFaults};
+ghost use Rattle.moving.specs.Ways.{refusalOf};
 
 // How many bytes a record has: the definitions' `recordSize`.
 pub const RECORD: usize = 40;
 
 // And how many in the old form: the definitions' `oldRecordSize`.
 pub const OLD: usize = 32;
+
+// Where the padding behind ratio and place begins.
+const TAIL: usize = 36;
 
 // Ratio 100 and place 1, in two bytes each and the lowest first, as one number: it is read and written at once.
 const WHOLE: u64 = 65_636;
@@ -46,7 +50,7 @@ fn is_tail_filled(r: &[u8]) -> bool
     requires { ⌜ length (now r) ≡ recordSize ⌝ }
     ensures { λ t. ⌜ t ≡ filled tailPadding (now (r .entry)) ⌝ }
 {
-    slices::read_le(&r[36..40]) != 0
+    slices::read_le(&r[TAIL..RECORD]) != 0
 }
 
 // A ratio that is not 100, or a place that is not 1.
@@ -54,7 +58,7 @@ fn is_other(r: &[u8]) -> bool
     requires { ⌜ length (now r) ≡ recordSize ⌝ }
     ensures { λ t. ⌜ t ≡ otherRatio (now (r .entry)) ⌝ }
 {
-    slices::read_le(&r[32..36]) != WHOLE
+    slices::read_le(&r[OLD..TAIL]) != WHOLE
 }
 
 // What one record of the new form is refused for.
@@ -81,70 +85,68 @@ fn keep_first(found: u64, next: u64) -> u64
     if found == 0 { next } else { found }
 }
 
-// Padding that is not zero, in any record of an old file.
-fn is_any_filled(file: &[u8]) -> bool
-    ensures { λ t. ⌜ t ≡ anyFilled oldPadding (recordsIn oldRecordSize (now (file .entry))) ⌝ }
+// What an old file is refused for by its records.
+fn find_filled(file: &[u8]) -> u64
+    ensures { λ n. ⌜ n ≡ newFaults (recordsIn oldRecordSize (now (file .entry))) ⌝ }
 {
-    let mut p = 0;
-    while p + OLD <= file.len() {
-        if is_filled(&file[p..p + OLD]) {
-            return true;
+    let mut at = 0;
+    while at + OLD <= file.len() {
+        if is_filled(&file[at..at + OLD]) {
+            return 2;
         }
-        p += OLD;
+        at += OLD;
     }
-    false
+    0
 }
 
 // What a new file is refused for by its records. 2 in a later record comes before 3 in an earlier one, so a 3 is noted and the loop goes on.
 fn find_fault(file: &[u8]) -> u64
-    ensures { λ n. ⌜ n ≡ faultIn (recordsIn recordSize (now (file .entry))) ⌝ }
+    ensures { λ n. ⌜ n ≡ oldFaults (recordsIn recordSize (now (file .entry))) ⌝ }
 {
     let mut found = 0;
-    let mut p = 0;
-    while p + RECORD <= file.len() {
-        let fault = fault_of(&file[p..p + RECORD]);
+    let mut at = 0;
+    while at + RECORD <= file.len() {
+        let fault = fault_of(&file[at..at + RECORD]);
         if fault == 2 {
-            return 2;
+            return fault;
         }
         found = keep_first(found, fault);
-        p += RECORD;
+        at += RECORD;
     }
     found
 }
 
-// What an old file is refused for, with so much room; 0 for nothing.
-fn refuse_old_file(file: &[u8], room: usize) -> u64
-    ensures { λ n. ⌜ n ≡ newRefusal (now (file .entry)) room ⌝ }
+// What is refused for the room, where so many bytes are to be moved.
+fn check_room(moved: usize, room: usize) -> u64
+    ensures { λ n. ⌜ n ≡ met (room <? moved) 4 ⌝ }
 {
-    let n = file.len();
-    if n % OLD != 0 {
+    if room < moved { 4 } else { 0 }
+}
+
+// What an old file is refused for, with so much room; 0 for nothing.
+fn judge_old_file(file: &[u8], room: usize) -> u64
+    ensures { λ n. ⌜ n ≡ refusalOf oldRecordSize newForm newFaults (now (file .entry)) room ⌝ }
+{
+    let size = file.len();
+    if size % OLD != 0 {
         return 1;
     }
-    if is_any_filled(file) {
-        return 2;
-    }
-    if room < n / OLD * RECORD {
-        return 4;
-    }
-    0
+    let filled = find_filled(file);
+    let short = check_room(size / OLD * RECORD, room);
+    keep_first(filled, short)
 }
 
 // What a new file is refused for, with so much room; 0 for nothing.
-fn refuse_new_file(file: &[u8], room: usize) -> u64
-    ensures { λ n. ⌜ n ≡ oldRefusal (now (file .entry)) room ⌝ }
+fn judge_new_file(file: &[u8], room: usize) -> u64
+    ensures { λ n. ⌜ n ≡ refusalOf recordSize oldForm oldFaults (now (file .entry)) room ⌝ }
 {
-    let n = file.len();
-    if n % RECORD != 0 {
+    let size = file.len();
+    if size % RECORD != 0 {
         return 1;
     }
     let fault = find_fault(file);
-    if fault != 0 {
-        return fault;
-    }
-    if room < n / RECORD * OLD {
-        return 4;
-    }
-    0
+    let short = check_room(size / RECORD * OLD, room);
+    keep_first(fault, short)
 }
 
 // The bytes that both forms have. Their number is a constant, so that they are moved in wide pieces.
@@ -227,7 +229,7 @@ fn settle(n: usize, room: &mut [u8]) -> Move
 pub fn to_new(file: &[u8], room: &mut [u8]) -> Move
     ensures { λ m. ⌜ outcomeIs m (now (room .exit)) ≡ toNew (now (file .entry)) (length (now (room .entry))) ⌝ }
 {
-    let number = refuse_old_file(file, room.len());
+    let number = judge_old_file(file, room.len());
     if number != 0 {
         return refuse(number, room);
     }
@@ -239,7 +241,7 @@ pub fn to_new(file: &[u8], room: &mut [u8]) -> Move
 pub fn to_old(file: &[u8], room: &mut [u8]) -> Move
     ensures { λ m. ⌜ outcomeIs m (now (room .exit)) ≡ toOld (now (file .entry)) (length (now (room .entry))) ⌝ }
 {
-    let number = refuse_new_file(file, room.len());
+    let number = judge_new_file(file, room.len());
     if number != 0 {
         return refuse(number, room);
     }

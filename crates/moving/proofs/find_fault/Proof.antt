@@ -1,48 +1,54 @@
--- What was found, and the fault of the records from p on, together are the file's.
+-- What was found, and the fault of the records from `at` on, together are the file's.
 use Prim.Native.Nat.{_+_, _-_, _≤_}
-use mathlib.Core.Path.{_≡_, refl, sym, ap, _∙_}
+use mathlib.Core.Path.{_≡_, refl, sym, _∙_}
 use native.Mathlib.Omega.{arith}
 use lib.ListN.{length, drop}
 use Rattle.meaning.specs.Results.{recordSize}
 use Rattle.meaning.specs.Moving.{recordsIn}
 use Rattle.sequences.specs.Parts.{part, length-part}
-use Rattle.moving.specs.Faults.{faultOf, faultIn, faultAfter, pass-stops, pass-goes, pass-ends}
+use Rattle.moving.specs.Faults.{faultOf, oldFaults, faultAfter, pass-stops, pass-goes, pass-ends}
 use Rattle.moving.proofs.find_fault.Statement.{statement}
 use Rattle.moving.proofs.find_fault.Tie as tie
 
 abbrev Inv-loop : tie.InvT-loop
-Inv-loop file found₀ p₀ found p = (p ≤ length file) × (faultAfter found (recordsIn recordSize (drop p file)) ≡ faultIn (recordsIn recordSize file))
+Inv-loop file found₀ at₀ found at = (faultAfter found (recordsIn recordSize (drop at file)) ≡ oldFaults (recordsIn recordSize file)) × (at ≤ length file)
 
 abbrev μ-loop : tie.MeasureT-loop
-μ-loop file found₀ p₀ found p = length file - p
+μ-loop file found₀ at₀ found at = length file - at
 
 loop-holds : tie.Need-loop-holds Inv-loop μ-loop
-loop-holds c = (omega arith, refl)
+loop-holds c = (refl, omega arith)
 
 fault-of-requires : tie.Need-fault-of-requires Inv-loop μ-loop
 fault-of-requires c κs =
-    let p = c .before .before .loop .p in
+    let p = c .before .before .loop .at in
     let n : p + recordSize - p ≡ recordSize = omega arith in
     rw n (length-part p recordSize (c .before .before .before .before .args .file .now) (c .before .loop-test .taken))
 
+-- what the record at a place is refused for
+told : (c : tie.After-fault-of Inv-loop μ-loop) → c .fault-of .result ≡ faultOf (part (c .before .before .before .loop .at) recordSize (c .before .before .before .before .before .args .file .now))
+told c =
+    let p = c .before .before .before .loop .at in
+    let n : p + recordSize - p ≡ recordSize = omega arith in
+    rw n at (c .fault-of .ensures)
+
 returns : tie.Need-returns Inv-loop μ-loop
 returns c =
-    let l = c .before .before .before .before .loop in
-    let n : l .p + recordSize - l .p ≡ recordSize = omega arith in
-    let told : c .before .fault-of .result ≡ faultOf (part (l .p) recordSize (c .before .before .before .before .before .before .args .file .now)) = rw n at (c .before .fault-of .ensures) in
-    sym (pass-stops (l .found) (c .before .before .before .before .before .before .args .file .now) (l .p) (c .before .before .before .loop-test .taken) (sym told ∙ c .if1 .taken)) ∙ l .inv .1
+    let test = c .before .before .before in
+    let l = test .before .loop in
+    c .if1 .taken ∙ sym (pass-stops (l .found) (test .before .before .before .args .file .now) (l .at) (test .loop-test .taken) (sym (told (c .before)) ∙ c .if1 .taken)) ∙ l .inv .0
 
 loop-again : tie.Need-loop-again Inv-loop μ-loop
 loop-again c =
-    let l = c .before .before .before .before .before .loop in
-    let n : l .p + recordSize - l .p ≡ recordSize = omega arith in
-    let told : c .before .before .fault-of .result ≡ faultOf (part (l .p) recordSize (c .before .before .before .before .before .before .before .args .file .now)) = rw n at (c .before .before .fault-of .ensures) in
-    (omega arith, sym (pass-goes (l .found) (c .before .before .before .before .before .before .before .args .file .now) (l .p) (c .before .before .before .before .loop-test .taken) told (c .before .if1 .left) (c .keep-first .ensures)) ∙ l .inv .1)
+    let test = c .before .before .before .before in
+    let l = test .before .loop in
+    let turn = pass-goes (l .found) (test .before .before .before .args .file .now) (l .at) (test .loop-test .taken) (told (c .before .before)) (c .before .if1 .left) (c .keep-first .ensures) in
+    (sym turn ∙ l .inv .0, omega arith)
 
 returns-2 : tie.Need-returns-2 Inv-loop μ-loop
 returns-2 c =
     let l = c .before .loop in
-    sym (pass-ends (l .found) (c .before .before .before .args .file .now) (l .p) (c .loop-test .left)) ∙ l .inv .1
+    sym (pass-ends (l .found) (c .before .before .before .args .file .now) (l .at) (c .loop-test .left)) ∙ l .inv .0
 
 pub find-fault-spec : {M : Type 1} → statement M
 find-fault-spec =
@@ -59,7 +65,7 @@ find-fault-spec =
     fault-of-requires
     returns
     (λ c κs. tt)  -- keep-first-requires
-    (λ c. omega arith)  -- add-p
+    (λ c. omega arith)  -- add-at
     (λ c. omega arith)  -- loop-less
     loop-again
     returns-2)

@@ -1,9 +1,10 @@
 -- Each test is the next of the definition.
-use mathlib.Core.Path.{_≡_}
-use mathlib.Core.Bool.{Bool, or-false}
+use mathlib.Core.Path.{sym}
+use mathlib.Core.Bool.{not, or-false}
 use borrow.Author.Tests.{eq-eqb, ne-eqb}
 use borrow.Author.Needs.{needs}
 use lib.ListN.{getD}
+use Rattle.meaning.specs.Words.{_=?_}
 use Rattle.moving.proofs.is_filled.Statement.{statement}
 use Rattle.moving.proofs.is_filled.Tie as tie
 
@@ -18,7 +19,7 @@ returns-2 c =
 returns-3 : tie.Need-returns-3
 returns-3 c =
     let r = c .before .before .before .before .before .args .r .now in
-    rw (eq-eqb (getD r 7 0) 0 (c .before .before .before .if1 .left), eq-eqb (getD r 22 0) 0 (c .before .if2 .left), or-false)
+    rw (eq-eqb (getD r 7 0) 0 (c .before .before .before .if1 .left), eq-eqb (getD r 22 0) 0 (c .before .if2 .left)) (sym (or-false (not (getD r 23 0 =? 0))))
 
 pub is-filled-spec : {M : Type 1} → statement M
 is-filled-spec =

@@ -1,6 +1,6 @@
 -- Between two turns the records before p stand in the room before q, in their new form.
 use Prim.Native.Nat.{_+_, _-_, _≤_}
-use mathlib.Core.Path.{_≡_, sym, ap, _∙_}
+use mathlib.Core.Path.{_≡_, ap}
 use native.Mathlib.Omega.{arith}
 use lib.ListN.{length}
 use Rattle.meaning.specs.Results.{recordSize, oldRecordSize}
@@ -24,15 +24,18 @@ loop-holds c = moving-starts newForm oldRecordSize recordSize (omega arith) new-
 fits : (c : tie.In-loop Inv-loop μ-loop) → c .before .loop .q + recordSize ≤ length (c .before .loop .room)
 fits c =
     let l = c .before .loop in
-    let x = c .before .before .before .before .args in
-    omega (arith, l .inv .long, moving-fits newForm oldRecordSize recordSize (omega arith) new-makes (x .file .now) (x .room .now) (l .room) (l .p) (l .q) (l .inv) (c .loop-test .taken) (c .before .before .before .before .pre))
+    let start = c .before .before .before .before in
+    let x = start .args in
+    let room = moving-fits newForm oldRecordSize recordSize (omega arith) new-makes (x .file .now) (x .room .now) (l .room) (l .p) (l .q) (l .inv) (c .loop-test .taken) (start .pre) in
+    omega (arith, l .inv .long)
 
 put-new-requires : tie.Need-put-new-requires Inv-loop μ-loop
 put-new-requires c κs =
     let l = c .before .before .before .loop in
     let m : l .q + recordSize - l .q ≡ recordSize = omega arith in
     let n : l .p + oldRecordSize - l .p ≡ oldRecordSize = omega arith in
-    (rw m (length-part (l .q) recordSize (l .room) (fits (c .before .before))), rw n (length-part (l .p) oldRecordSize (c .before .before .before .before .before .before .args .file .now) (c .before .before .loop-test .taken)))
+    let test = c .before .before in
+    (rw m (length-part (l .q) recordSize (l .room) (fits test)), rw n (length-part (l .p) oldRecordSize (test .before .before .before .before .args .file .now) (test .loop-test .taken)))
 
 loop-again : tie.Need-loop-again Inv-loop μ-loop
 loop-again c =

@@ -1,6 +1,5 @@
 -- The old bytes are copied, and ratio, place and zeros are what `put_le` leaves in the part behind them.
 use mathlib.Core.Path.{_≡_, ap, _∙_}
-use mathlib.Core.List.{List}
 use Prim.Native.Nat.{ℕ, _+_, _≤_}
 use native.Mathlib.Omega.{arith}
 use borrow.Author.Needs.{needs}

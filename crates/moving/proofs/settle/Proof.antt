@@ -1,5 +1,4 @@
 -- Zeros in the part behind the moved bytes, which stay.
-use mathlib.Core.Path.{_≡_}
 use borrow.Author.Needs.{needs}
 use Rattle.moving.specs.Outcomes.{zeros-behind}
 use Rattle.moving.proofs.settle.Statement.{statement}
