@@ -2,11 +2,7 @@
 use Prim.Native.Nat.{ℕ, _+_, _*_}
 use Rattle.hexes.specs.Hex.{byteSize}
 
--- "REFUSED ", which is longer than "MOVED ".
-abbrev pub wordSize : ℕ
-wordSize = 8
-
--- A word, a number of at most 20 digits, the line's end.
+-- "REFUSED ", at most 20 digits, the line's end. The line of a move is shorter.
 abbrev pub answerSize : ℕ
 answerSize = 29
 

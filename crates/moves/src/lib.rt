@@ -1,15 +1,12 @@
 // A case of the program `mover`: what it says before its file, and what is printed of it.
 ghost use mathlib.Core.Path.{_≡_};
-ghost use mathlib.Core.List.{_++_};
 ghost use Prim.Native.Nat.{_≤_};
 ghost use lib.ListN.{length};
-ghost use Rattle.meaning.specs.Listing.{whole};
 ghost use Rattle.moving.specs.Answers.{moveIs, outcomeIs};
-ghost use Rattle.text.specs.Line.{line};
 ghost use Rattle.text.specs.Written.{Written};
 ghost use Rattle.text.specs.Counted.{Counted};
 ghost use Rattle.moves.specs.Case.{moveCaseOf};
-ghost use Rattle.moves.specs.Sizes.{wordSize, answerSize, moveSize};
+ghost use Rattle.moves.specs.Sizes.{answerSize, moveSize};
 ghost use Rattle.moves.specs.Text.{moveLine, moveText};
 use moving::Move;
 
@@ -39,17 +36,6 @@ pub fn read_move(b: &[u8]) -> Case
     }
 }
 
-// The line of a word and a number.
-fn write_told(out: &mut [u8], word: &[u8], n: u64) -> usize
-    requires { ⌜ (length (now word) ≤ wordSize) × (answerSize ≤ length (now out)) ⌝ }
-    ensures text { λ r. ⌜ Written (now (out .entry)) 0 (line (now (word .entry) ++ whole n)) (now (out .exit)) r ⌝ }
-    ensures short { λ r. ⌜ r ≤ answerSize ⌝ }
-{
-    let number = text::write_text(out, 0, word);
-    let end = text::write_whole(out, number, n);
-    text::write_byte(out, end, b'\n')
-}
-
 // The line of the answer.
 fn write_answer(out: &mut [u8], answer: Move) -> usize
     requires { ⌜ answerSize ≤ length (now out) ⌝ }
@@ -57,8 +43,8 @@ fn write_answer(out: &mut [u8], answer: Move) -> usize
     ensures short { λ r. ⌜ r ≤ answerSize ⌝ }
 {
     match answer {
-        Move::Moved(count) => write_told(out, b"MOVED ", count as u64),
-        Move::Refused(number) => write_told(out, b"REFUSED ", number),
+        Move::Moved(count) => text::write_told(out, 0, b"MOVED ", count as u64),
+        Move::Refused(number) => text::write_told(out, 0, b"REFUSED ", number),
     }
 }
 
