@@ -1,8 +1,8 @@
 -- What is printed, or counted, of the first few: what one more adds. And how long a number and an answer are.
---     numbers-more, hex-more      one more is printed
+--     numbers-more                one more is printed
 --     left-zero, left-other       one more is looked at, which is zero or not
 --     number-short, counts-short, refusal-short   a number has at most 20 digits
-use mathlib.Core.Path.{_≡_, refl, sym, ap, _∙_}
+use mathlib.Core.Path.{_≡_, sym, _∙_}
 use mathlib.Core.List.{List, [], _∷_, _++_, append-nil, append-assoc}
 use Prim.Native.Nat.{ℕ, zero, suc, _+_, _^_, _≤_, _<_}
 use native.Mathlib.Nat.{add-zero}
@@ -15,7 +15,7 @@ use Rattle.meaning.specs.Run.{Accepted, Refused}
 use Rattle.meaning.specs.Listing.{refusedLine}
 use Rattle.text.specs.Digits.{whole-short}
 use Rattle.cases.specs.Sizes.{answerSize, ordinateSize}
-use Rattle.cases.specs.Text.{answerLine, numberAt, numbersFrom, hex, hexAll, left}
+use Rattle.cases.specs.Text.{answerLine, numberAt, numbersFrom, left}
 
 numbers-next : (j i : ℕ) (xs : List ℕ) → i < length xs → numbersFrom j (take (suc i) xs) ≡ numbersFrom j (take i xs) ++ numberAt (j + i) (getD xs i 0)
 numbers-next j i [] h = absurd (omega arith)
@@ -32,14 +32,6 @@ numbers-more i xs h =
 pub number-short : (i x : ℕ) → x < 10 ^ 20 → length (numberAt i x) ≤ ordinateSize
 number-short zero x h = omega (arith, whole-short 19 x h)
 number-short (suc i) x h = omega (arith, whole-short 19 x h)
-
-hex-next : (i : ℕ) (bs : List ℕ) → i < length bs → hexAll (take (suc i) bs) ≡ hexAll (take i bs) ++ hex (getD bs i 0)
-hex-next i [] h = absurd (omega arith)
-hex-next zero (b ∷ bs) h = refl
-hex-next (suc i) (b ∷ bs) h = ap (λ (l : List ℕ). hex b ++ l) (hex-next i bs (omega arith))
-
-pub hex-more : (i : ℕ) (bs : List ℕ) → i < length bs → hexAll (take (i + 1) bs) ≡ hexAll (take i bs) ++ hex (getD bs i 0)
-hex-more i bs h = rw (add-one i) (hex-next i bs h)
 
 left-next : (i : ℕ) (xs : List ℕ) → i < length xs → left (take (suc i) xs) ≡ left (take i xs) + (if getD xs i 0 =? 0 then 0 else 1)
 left-next i [] h = absurd (omega arith)

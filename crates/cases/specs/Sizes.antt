@@ -1,5 +1,6 @@
 -- How many bytes the text of a case takes at most.
 use Prim.Native.Nat.{ℕ, _+_, _*_}
+use Rattle.hexes.specs.Hex.{byteSize}
 
 -- Three numbers of at most 20 digits, two blanks, the line's end. The line of a refusal is shorter.
 abbrev pub answerSize : ℕ
@@ -8,10 +9,6 @@ answerSize = 63
 -- A blank and at most 20 digits.
 abbrev pub ordinateSize : ℕ
 ordinateSize = 21
-
--- Two digits.
-abbrev pub byteSize : ℕ
-byteSize = 2
 
 -- A count of at most 20 digits and '--', with their lines' ends.
 abbrev pub leftSize : ℕ

@@ -1,17 +1,15 @@
 -- What is printed of a case, from what a run leaves: a line for the answer, one for the ordinates, one for the record bytes, one for the count of work words that are
 -- not zero, and one that is '--'.
 --     an-outcome, a-refusal     two of them as they are printed
-use Prim.Native.Nat.{ℕ, zero, suc, _+_, _-_, _/_, _%_}
-use Prim.Native.Char.{code}
+use Prim.Native.Nat.{ℕ, zero, suc, _+_}
 use mathlib.Core.Path.{_≡_, refl}
 use mathlib.Core.List.{List, [], _∷_, _++_}
-use Rattle.meaning.specs.Words.{_=?_, _<?_, if_then_else_, bytes}
-use Rattle.meaning.specs.Lines.{lf, blank}
+use Rattle.meaning.specs.Words.{_=?_, if_then_else_, bytes}
+use Rattle.meaning.specs.Lines.{blank}
 use Rattle.meaning.specs.Run.{Answer, Accepted, Refused, Outcome}
-use Rattle.meaning.specs.Listing.{digit, whole, refusedLine}
-
-abbrev pub line : List ℕ → List ℕ
-line s = s ++ (lf ∷ [])
+use Rattle.meaning.specs.Listing.{whole, refusedLine}
+use Rattle.text.specs.Line.{line}
+use Rattle.hexes.specs.Hex.{hexAll}
 
 unfoldable pub answerLine : Answer → List ℕ
 answerLine (Accepted nq blocks ratios) = line (whole nq ++ (blank ∷ whole blocks) ++ (blank ∷ whole ratios))
@@ -25,17 +23,6 @@ numberAt (suc i) x = blank ∷ whole x
 abbrev pub numbersFrom : ℕ → List ℕ → List ℕ
 numbersFrom i [] = []
 numbersFrom i (x ∷ xs) = numberAt i x ++ numbersFrom (suc i) xs
-
--- A byte in two hexadecimal digits.
-abbrev pub hexDigit : ℕ → ℕ
-hexDigit d = if d <? 10 then digit d else code "a" + (d - 10)
-
-abbrev pub hex : ℕ → List ℕ
-hex b = hexDigit (b / 16) ∷ hexDigit (b % 16) ∷ []
-
-abbrev pub hexAll : List ℕ → List ℕ
-hexAll [] = []
-hexAll (b ∷ bs) = hex b ++ hexAll bs
 
 -- How many words are not zero.
 abbrev pub left : List ℕ → ℕ

@@ -1,16 +1,15 @@
 // A case of the program `rooms`: what it says before its deck, and what is printed of it.
 ghost use mathlib.Core.Path.{_≡_};
-ghost use Prim.Native.Nat.{_+_, _*_, _<_, _≤_};
+ghost use Prim.Native.Nat.{_+_, _*_, _≤_};
 ghost use lib.ListN.{length};
-ghost use Rattle.sequences.specs.Parts.{part};
-ghost use Rattle.slices.specs.Bytes.{fromLittleEndian};
 ghost use Rattle.meaning.specs.Run.{Accepted};
 ghost use Rattle.answers.specs.Answers.{answerIs, outcomeIs};
+ghost use Rattle.text.specs.Line.{line};
 ghost use Rattle.text.specs.Written.{Written};
 ghost use Rattle.text.specs.Counted.{Counted};
 ghost use Rattle.cases.specs.Case.{caseOf};
-ghost use Rattle.cases.specs.Sizes.{answerSize, ordinateSize, byteSize, leftSize, caseSize};
-ghost use Rattle.cases.specs.Text.{line, answerLine, numberAt, numbersFrom, hexDigit, hex, hexAll, left, leftLines, caseText};
+ghost use Rattle.cases.specs.Sizes.{answerSize, ordinateSize, leftSize, caseSize};
+ghost use Rattle.cases.specs.Text.{answerLine, numberAt, numbersFrom, left, leftLines, caseText};
 use answers::Answer;
 
 // The most that a case may ask for, and the bytes that its text has room in: the answer, 21 for an ordinate, 2 for a record byte, the ends of these lines, the rest.
@@ -32,25 +31,18 @@ pub struct Case {
     pub size: usize,
 }
 
-fn number_at(b: &[u8], at: usize) -> usize
-    requires { ⌜ at + 4 ≤ length (now b) ⌝ }
-    ensures { λ r. ⌜ r ≡ fromLittleEndian (part at 4 (now (b .entry))) ⌝ }
-{
-    slices::read_le(&b[at..at + 4]) as usize
-}
-
 // Six numbers, each in 4 bytes, the lowest first.
 pub fn read_case(b: &[u8]) -> Case
     requires { ⌜ 24 ≤ length (now b) ⌝ }
     ensures { λ r. ⌜ r ≡ caseOf (now (b .entry)) ⌝ }
 {
     Case {
-        named: number_at(b, 0),
-        ratio: number_at(b, 4),
-        work: number_at(b, 8),
-        ordinates: number_at(b, 12),
-        records: number_at(b, 16),
-        size: number_at(b, 20),
+        named: slices::number_at(b, 0),
+        ratio: slices::number_at(b, 4),
+        work: slices::number_at(b, 8),
+        ordinates: slices::number_at(b, 12),
+        records: slices::number_at(b, 16),
+        size: slices::number_at(b, 20),
     }
 }
 
@@ -105,36 +97,6 @@ fn write_ordinates(out: &mut [u8], start: usize, ordinates: &[u64]) -> usize
     text::write_byte(out, at, b'\n')
 }
 
-fn hex_digit(d: u8) -> u8
-    requires { ⌜ d < 16 ⌝ }
-    ensures { λ r. ⌜ r ≡ hexDigit d ⌝ }
-{
-    if d < 10 { b'0' + d } else { b'a' + (d - 10) }
-}
-
-fn write_hex(out: &mut [u8], at: usize, b: u8) -> usize
-    requires { ⌜ at + byteSize ≤ length (now out) ⌝ }
-    ensures { λ r. ⌜ Written (now (out .entry)) at (hex b) (now (out .exit)) r ⌝ }
-{
-    let low = text::write_byte(out, at, hex_digit(b / 16));
-    text::write_byte(out, low, hex_digit(b % 16))
-}
-
-// The line of the record bytes.
-fn write_records(out: &mut [u8], start: usize, records: &[u8]) -> usize
-    requires { ⌜ start + byteSize * length (now records) + 1 ≤ length (now out) ⌝ }
-    ensures text { λ r. ⌜ Written (now (out .entry)) start (line (hexAll (now (records .entry)))) (now (out .exit)) r ⌝ }
-    ensures short { λ r. ⌜ r ≤ start + byteSize * length (now (records .entry)) + 1 ⌝ }
-{
-    let mut at = start;
-    let mut i = 0;
-    while i < records.len() {
-        at = write_hex(out, at, records[i]);
-        i += 1;
-    }
-    text::write_byte(out, at, b'\n')
-}
-
 // How many words are not zero.
 fn count_left(words: &[u64]) -> u64
     ensures { λ r. ⌜ r ≡ left (now (words .entry)) ⌝ }
@@ -174,6 +136,6 @@ pub fn write_case(
 {
     let flows = write_answer(out, answer);
     let bytes = write_ordinates(out, flows, ordinates);
-    let count = write_records(out, bytes, records);
+    let count = hexes::write_bytes(out, bytes, records);
     write_left(out, count, work)
 }

@@ -12,6 +12,8 @@ use Rattle.slices.proofs.put_le.Kinds as put-le
 use Rattle.slices.proofs.put_le.Reads as put-le-says
 use Rattle.slices.proofs.read_le.Kinds as read-le
 use Rattle.slices.proofs.read_le.Reads as read-le-says
+use Rattle.slices.proofs.number_at.Kinds as number-at
+use Rattle.slices.proofs.number_at.Reads as number-at-says
 use Rattle.slices.proofs.smaller.Kinds as smaller
 use Rattle.slices.proofs.smaller.Reads as smaller-says
 
@@ -29,6 +31,9 @@ one-put-le κs a x y e f p q = cc
 
 pub one-read-le : Once read-le.ps read-le.r read-le-says.Post (λ κs x y e f. x ≡ y)
 one-read-le κs a x y e f p q = cc
+
+pub one-number-at : Once number-at.ps number-at.r number-at-says.Post (λ κs x y e f. x ≡ y)
+one-number-at κs a x y e f p q = cc
 
 pub one-smaller : Once smaller.ps smaller.r smaller-says.Post (λ κs x y e f. x ≡ y)
 one-smaller κs a x y e f p q = cc

@@ -76,7 +76,7 @@ pub fn fill(s: &mut [u8]) -> Next
 }
 
 // A number in 4 bytes, the lowest first.
-fn read_number() -> Next
+pub fn read_number() -> Next
     ensures { λ r. ⌜ InFour r ⌝ }
 {
     let mut b = [0u8; 4];
@@ -154,7 +154,7 @@ pub fn explain(next: Next) {
 }
 
 // To standard error, if that can be.
-fn say(text: &[u8]) {
+pub fn say(text: &[u8]) {
     io::write_all(STDERR_FILENO, text);
 }
 

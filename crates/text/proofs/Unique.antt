@@ -13,6 +13,8 @@ use Rattle.text.proofs.write_number.Kinds as write-number
 use Rattle.text.proofs.write_number.Reads as write-number-says
 use Rattle.text.proofs.write_amount.Kinds as write-amount
 use Rattle.text.proofs.write_amount.Reads as write-amount-says
+use Rattle.text.proofs.write_told.Kinds as write-told
+use Rattle.text.proofs.write_told.Reads as write-told-says
 use Rattle.text.proofs.trim_blanks.Kinds as trim-blanks
 use Rattle.text.proofs.trim_blanks.Reads as trim-blanks-says
 
@@ -30,6 +32,9 @@ one-write-number κs a x y e f p q = written-once p q
 
 pub one-write-amount : Once write-amount.ps write-amount.r write-amount-says.Post (λ κs x y e f. (x ≡ y) × (now (e .0) ≡ now (f .0)))
 one-write-amount κs a x y e f p q = written-once p q
+
+pub one-write-told : Once write-told.ps write-told.r write-told-says.Post (λ κs x y e f. (x ≡ y) × (now (e .0) ≡ now (f .0)))
+one-write-told κs a x y e f p q = written-once p q
 
 pub one-trim-blanks : Once trim-blanks.ps trim-blanks.r trim-blanks-says.Post (λ κs x y e f. now x ≡ now y)
 one-trim-blanks κs a x y e f p q = p ∙ sym q

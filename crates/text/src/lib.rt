@@ -1,12 +1,13 @@
 // Bytes, texts and numbers in decimal, written into lent bytes from a place on; and a text without the blanks at its end.
 // Each function that writes answers the place behind what it wrote.
 ghost use mathlib.Core.Path.{_≡_};
-ghost use mathlib.Core.List.{[], _∷_};
+ghost use mathlib.Core.List.{[], _∷_, _++_};
 ghost use Prim.Native.Nat.{_+_, _<_, _≤_};
 ghost use lib.ListN.{length};
 ghost use Rattle.meaning.specs.Lines.{blank};
 ghost use Rattle.meaning.specs.Fields.{trimEnd, isBlank};
 ghost use Rattle.meaning.specs.Listing.{digit, whole, twoPlaces};
+ghost use Rattle.text.specs.Line.{line};
 ghost use Rattle.text.specs.Written.{Written};
 
 pub fn write_byte(out: &mut [u8], at: usize, b: u8) -> usize
@@ -70,6 +71,16 @@ pub fn write_amount(out: &mut [u8], at: usize, x: u64) -> usize
 {
     let next = write_byte(out, at, b' ');
     write_two_places(out, next, x)
+}
+
+// The line of a word and a number.
+pub fn write_told(out: &mut [u8], at: usize, word: &[u8], x: u64) -> usize
+    requires { ⌜ at + length (line (now word ++ whole x)) ≤ length (now out) ⌝ }
+    ensures { λ r. ⌜ Written (now (out .entry)) at (line (now (word .entry) ++ whole x)) (now (out .exit)) r ⌝ }
+{
+    let number = write_text(out, at, word);
+    let end = write_whole(out, number, x);
+    write_byte(out, end, b'\n')
 }
 
 // Without the blanks at the end.

@@ -16,7 +16,7 @@ returns c =
     let answer = ordinates .before .before .before .before in
     let text =
     written-more (omega arith)
-    (written-more (omega arith) (written-more (omega arith) (answer .write-answer .ensures .0) (ordinates .write-ordinates .ensures .0)) (records .write-records .ensures .0))
+    (written-more (omega arith) (written-more (omega arith) (answer .write-answer .ensures .0) (ordinates .write-ordinates .ensures .0)) (records .write-bytes .ensures .0))
     (left .write-left .ensures) in
     (text, written-counted text)
 
@@ -26,7 +26,7 @@ write-case-spec =
     (tie.spec
     (λ c κs. search needs)  -- write-answer-requires
     (λ c κs. search needs)  -- write-ordinates-requires
-    (λ c κs. search needs)  -- write-records-requires
+    (λ c κs. search needs)  -- write-bytes-requires
     (λ c κs. search needs)  -- write-left-requires
     (λ c. search needs)  -- same-length
     returns)

@@ -3,8 +3,8 @@ use Prim.Native.Nat.{_+_, _-_}
 use mathlib.Core.Path.{_≡_}
 use native.Mathlib.Omega.{arith}
 use borrow.Author.Needs.{needs}
-use Rattle.cases.proofs.number_at.Statement.{statement}
-use Rattle.cases.proofs.number_at.Tie as tie
+use Rattle.slices.proofs.number_at.Statement.{statement}
+use Rattle.slices.proofs.number_at.Tie as tie
 
 returns : tie.Need-returns
 returns c =

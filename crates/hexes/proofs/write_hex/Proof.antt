@@ -2,8 +2,8 @@
 use native.Mathlib.Omega.{arith}
 use Rattle.text.specs.Written.{written-more}
 use borrow.Author.Needs.{needs}
-use Rattle.cases.proofs.write_hex.Statement.{statement}
-use Rattle.cases.proofs.write_hex.Tie as tie
+use Rattle.hexes.proofs.write_hex.Statement.{statement}
+use Rattle.hexes.proofs.write_hex.Tie as tie
 
 returns : tie.Need-returns
 returns c =

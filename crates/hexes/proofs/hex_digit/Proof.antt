@@ -3,8 +3,8 @@ use mathlib.Core.Path.{refl}
 use Rattle.sequences.specs.Choices.{taken, passed}
 use borrow.Author.Needs.{needs}
 use borrow.Author.Tests.{lt-ltb, le-ltb}
-use Rattle.cases.proofs.hex_digit.Statement.{statement}
-use Rattle.cases.proofs.hex_digit.Tie as tie
+use Rattle.hexes.proofs.hex_digit.Statement.{statement}
+use Rattle.hexes.proofs.hex_digit.Tie as tie
 
 returns : tie.Need-returns
 returns c = taken _ (lt-ltb (c .before .args .d) 10 (c .if1 .taken)) refl

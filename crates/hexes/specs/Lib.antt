@@ -1,0 +1,2 @@
+-- Bytes in hexadecimal digits.
+pub mod Hex
