@@ -1,7 +1,7 @@
 -- The answer as the meaning of a move has it, with what was lent.
---     moveIs, outcomeIs     the answer, and what comes back
---     move-told             an answer is told by what it means
---     refusedIn, movedIn    what comes back of a refusal, and of bytes that were moved, in a room of so many bytes
+--     moveIs, outcomeIs                the answer, and what comes back
+--     move-told                        an answer is told by what it means
+--     refusedIn, movedIn               what comes back of a refusal, and of bytes that were moved, in a room of so many bytes
 --     unless-refused, unless-moved     a move that is refused, and one that is not
 use Prim.Native.Nat.{ℕ, zero, suc, _-_}
 use mathlib.Core.Path.{_≡_, refl}

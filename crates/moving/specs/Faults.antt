@@ -3,11 +3,11 @@
 --     faultOf, oldFaults           2 and 3: of one record that is to become old, and of records
 --     filled-more                  padding in two parts
 --     fault-front, fault-tail, fault-other, fault-none     one record, by its tests
---     faultAfter                   of the records that are left, where a refusal was found in those before
+--     faultAfter                   of the records that are left, where that refusal, or none, was noted in those before
 --     fault-stops, fault-goes      a record that the pass ends at, and one that it goes on from
 --     first-some                   of two refusals the first, where it is one
 --     filled-stops, filled-goes, filled-ends      the pass over an old file, at a place
---     pass-stops, pass-goes, pass-ends            the pass over a new file, at a place
+--     pass-starts, pass-stops, pass-goes, pass-ends     the pass over a new file, at a place
 use Prim.Native.Nat.{ℕ, zero, suc, _+_, _≤_, _<_}
 use mathlib.Core.Path.{_≡_, refl, sym, ap, _∙_}
 use mathlib.Core.Bool.{Bool, true, false, not, _||_, or-assoc}
@@ -36,7 +36,7 @@ abbrev pub oldFaults : List (List ℕ) → ℕ
 oldFaults rs = first (met (anyFilled newPadding rs) 2) (met (anyOther rs) 3)
 
 abbrev pub faultAfter : (found : ℕ) → List (List ℕ) → ℕ
-faultAfter found rs = first (met (anyFilled newPadding rs) 2) (first found (met (anyOther rs) 3))
+faultAfter found rs = first (met (anyFilled newPadding rs) 2) (first (met (anyOther rs) 3) found)
 
 pub first-some : (m n : ℕ) → (m ≡ 0 → ⊥) → m ≡ first m n
 first-some zero n some = absurd (some refl)
@@ -70,23 +70,22 @@ module _ (found : ℕ) (r : List ℕ) (rs : List (List ℕ)) where
   unfolding anyFilled anyOther
   fault-stops e = go (filled newPadding r) (otherRatio r) e
     where
-      go : (f o : Bool) → first (met f 2) (met o 3) ≡ 2 → first (met (f || anyFilled newPadding rs) 2) (first found (met (o || anyOther rs) 3)) ≡ 2
+      go : (f o : Bool) → first (met f 2) (met o 3) ≡ 2 → first (met (f || anyFilled newPadding rs) 2) (first (met (o || anyOther rs) 3) found) ≡ 2
       go true o h = refl
       go false true h = absurd (omega arith)
       go false false h = absurd (omega arith)
 
-  pub fault-goes : (faultOf r ≡ 2 → ⊥) → faultAfter found (r ∷ rs) ≡ faultAfter (first found (faultOf r)) rs
+  pub fault-goes : (faultOf r ≡ 2 → ⊥) → faultAfter found (r ∷ rs) ≡ faultAfter (first (faultOf r) found) rs
   unfolding anyFilled anyOther
-  fault-goes e = go (filled newPadding r) (otherRatio r) found e
+  fault-goes e = go (filled newPadding r) (otherRatio r) (anyOther rs) e
     where
-      go : (f o : Bool) (n : ℕ) → (first (met f 2) (met o 3) ≡ 2 → ⊥)
-          → first (met (f || anyFilled newPadding rs) 2) (first n (met (o || anyOther rs) 3))
-          ≡ first (met (anyFilled newPadding rs) 2) (first (first n (first (met f 2) (met o 3))) (met (anyOther rs) 3))
-      go true o n h = absurd (h refl)
-      go false true zero h = refl
-      go false true (suc n) h = refl
-      go false false zero h = refl
-      go false false (suc n) h = refl
+      go : (f o p : Bool) → (first (met f 2) (met o 3) ≡ 2 → ⊥)
+          → first (met (f || anyFilled newPadding rs) 2) (first (met (o || p) 3) found)
+          ≡ first (met (anyFilled newPadding rs) 2) (first (met p 3) (first (first (met f 2) (met o 3)) found))
+      go true o p h = absurd (h refl)
+      go false true true h = refl
+      go false true false h = refl
+      go false false p h = refl
 
 -- the pass over an old file's records, from a place on
 module _ (file : List ℕ) (p : ℕ) where
@@ -103,19 +102,23 @@ module _ (file : List ℕ) (p : ℕ) where
   unfolding anyFilled
   filled-ends short = rw (records-none oldRecordSize file p (omega arith) short)
 
--- the pass over a new file's records, from a place on
+-- the pass over a new file's records: before it nothing is found
+pub pass-starts : (file : List ℕ) → faultAfter 0 (recordsIn recordSize file) ≡ oldFaults (recordsIn recordSize file)
+pass-starts file = ap (first (met (anyFilled newPadding (recordsIn recordSize file)) 2)) (none-after (met (anyOther (recordsIn recordSize file)) 3))
+
+-- .. and from a place on
 module _ (found : ℕ) (file : List ℕ) (p : ℕ) where
   pub pass-stops : p + recordSize ≤ length file → faultOf (part p recordSize file) ≡ 2 → faultAfter found (recordsIn recordSize (drop p file)) ≡ 2
   pass-stops whole two =
       ap (faultAfter found) (records-more recordSize file p (omega arith) whole) ∙ fault-stops found (part p recordSize file) (recordsIn recordSize (drop (p + recordSize) file)) two
 
-  pub pass-goes : {fault next : ℕ} → p + recordSize ≤ length file → fault ≡ faultOf (part p recordSize file) → (fault ≡ 2 → ⊥) → next ≡ first found fault
+  pub pass-goes : {fault next : ℕ} → p + recordSize ≤ length file → fault ≡ faultOf (part p recordSize file) → (fault ≡ 2 → ⊥) → next ≡ first fault found
       → faultAfter found (recordsIn recordSize (drop p file)) ≡ faultAfter next (recordsIn recordSize (drop (p + recordSize) file))
   pass-goes whole told other noted =
       ap (faultAfter found) (records-more recordSize file p (omega arith) whole)
       ∙ fault-goes found (part p recordSize file) (recordsIn recordSize (drop (p + recordSize) file)) (λ two. other (told ∙ two))
-      ∙ ap (λ (n : ℕ). faultAfter n (recordsIn recordSize (drop (p + recordSize) file))) (sym (noted ∙ ap (first found) told))
+      ∙ ap (λ (n : ℕ). faultAfter n (recordsIn recordSize (drop (p + recordSize) file))) (sym (noted ∙ ap (λ (n : ℕ). first n found) told))
 
   pub pass-ends : length file < p + recordSize → faultAfter found (recordsIn recordSize (drop p file)) ≡ found
   unfolding anyFilled anyOther
-  pass-ends short = ap (faultAfter found) (records-none recordSize file p (omega arith) short) ∙ none-after found
+  pass-ends short = ap (faultAfter found) (records-none recordSize file p (omega arith) short)

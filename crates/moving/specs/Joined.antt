@@ -1,7 +1,8 @@
 -- Files as the records that they are made of.
---     Sized                          records of so many bytes each
---     length-joined                  how many bytes they are together
---     records-joined                 the records of a file that is made of records, and of what stands behind it
+--     Sized                          records of so many bytes each; sized-map, sized-append: of records in another form, and of more records
+--     joined-append                  records and more records, as files
+--     length-joined, whole-joined    how many bytes records make, and that this is whole records
+--     records-joined, records-of     the records of a file that is made of records, and of what stands behind it
 --     sized-records, joined-records  a file's records have the size, and make the file where it is whole
 --     join-files                     two files one behind the other, of their records
 use Prim.Native.Nat.{ℕ, zero, suc, _+_, _*_, _/_, _%_, _≤_, _<_}

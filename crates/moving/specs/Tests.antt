@@ -1,4 +1,6 @@
 -- A record's bytes tested as one number of several bytes.
+--     tailPadding      the padding behind ratio and place
+--     four-bytes       four bytes at the front of a list
 --     number-same      two runs of as many bytes are the same where their numbers are
 --     other-told       the ratio and the place, by their number
 --     tail-told        the padding behind them, by its number
@@ -18,7 +20,6 @@ use Rattle.sequences.specs.Parts.{part, length-part}
 use Rattle.slices.specs.Bytes.{fromLittleEndian}
 use Rattle.moving.specs.Forms.{whole}
 
--- the padding behind ratio and place
 abbrev pub tailPadding : List ℕ
 tailPadding = 36 ∷ 37 ∷ 38 ∷ 39 ∷ []
 
@@ -39,7 +40,6 @@ number-same (x ∷ xs) (y ∷ ys) long h k =
     byte-same x y (fromLittleEndian xs) (fromLittleEndian ys) (h 0) (k 0)
     ∙ ap (λ (t : Bool). (x =? y) && t) (number-same xs ys (omega arith) (bound-tail 255 x xs h) (bound-tail 255 y ys k))
 
--- four bytes at the front of a list
 pub four-bytes : (xs : List ℕ) → 4 ≤ length xs → take 4 xs ≡ getD xs 0 0 ∷ getD xs 1 0 ∷ getD xs 2 0 ∷ getD xs 3 0 ∷ []
 four-bytes [] h = absurd (omega arith)
 four-bytes (a ∷ []) h = absurd (omega arith)

@@ -110,7 +110,7 @@ fn find_fault(file: &[u8]) -> u64
         if fault == 2 {
             return fault;
         }
-        found = keep_first(found, fault);
+        found = keep_first(fault, found);
         at += RECORD;
     }
     found

@@ -1,12 +1,12 @@
--- What was found, and the fault of the records from `at` on, together are the file's.
+-- What was noted, and what the records from `at` on are refused for, together are what the file is refused for.
 use Prim.Native.Nat.{_+_, _-_, _≤_}
-use mathlib.Core.Path.{_≡_, refl, sym, _∙_}
+use mathlib.Core.Path.{_≡_, sym, _∙_}
 use native.Mathlib.Omega.{arith}
 use lib.ListN.{length, drop}
 use Rattle.meaning.specs.Results.{recordSize}
 use Rattle.meaning.specs.Moving.{recordsIn}
 use Rattle.sequences.specs.Parts.{part, length-part}
-use Rattle.moving.specs.Faults.{faultOf, oldFaults, faultAfter, pass-stops, pass-goes, pass-ends}
+use Rattle.moving.specs.Faults.{faultOf, oldFaults, faultAfter, pass-starts, pass-stops, pass-goes, pass-ends}
 use Rattle.moving.proofs.find_fault.Statement.{statement}
 use Rattle.moving.proofs.find_fault.Tie as tie
 
@@ -17,7 +17,7 @@ abbrev μ-loop : tie.MeasureT-loop
 μ-loop file found₀ at₀ found at = length file - at
 
 loop-holds : tie.Need-loop-holds Inv-loop μ-loop
-loop-holds c = (refl, omega arith)
+loop-holds c = (pass-starts (c .before .args .file .now), omega arith)
 
 fault-of-requires : tie.Need-fault-of-requires Inv-loop μ-loop
 fault-of-requires c κs =
