@@ -4,7 +4,7 @@
 use mathlib.Core.Path.{_≡_, sym, ap, _∙_}
 use mathlib.Core.Bool.{Bool, true, false, _||_}
 use mathlib.Core.List.{List, _++_}
-use Prim.Native.Nat.{ℕ, zero, suc, _-_, _≤_}
+use Prim.Native.Nat.{ℕ, _-_, _≤_}
 use native.Mathlib.Omega.{arith}
 use lib.ListN.{length, replicate, length-append}
 use borrow.Author.Tests.{ltb-false}
@@ -12,8 +12,7 @@ use Rattle.sequences.specs.Choices.{both-fail}
 use Rattle.meaning.specs.Words.{_=?_, _<?_, if_then_else_}
 use Rattle.meaning.specs.Run.{Lent, Outcome, Accepted, recordBytes, blockCount, noRoom, outcome}
 use Rattle.meaning.specs.Moving as meaning
-use Rattle.meaning.specs.Results.{recordSize, oldRecordSize}
-use Rattle.meaning.specs.Moving.{newForm, oldForm, movedUnless, toNew, toOld}
+use Rattle.meaning.specs.Moving.{toNew, toOld}
 use Rattle.network.specs.Answers.{passed-all}
 use Rattle.answers.specs.declared.Answer.{Answer}
 use Rattle.answers.specs.declared.Answer.the-variants as answer
@@ -22,7 +21,8 @@ use Rattle.moving.specs.declared.Move.{Move}
 use Rattle.moving.specs.declared.Move.the-variants as move
 use Rattle.moving.specs.Answers as moving
 use Rattle.moving.specs.Records.{movedBy}
-use Rattle.moving.specs.Faults.{newRefusal, oldRefusal}
+use Rattle.moving.specs.Ways.{Way, new-way, old-way}
+use Rattle.moving.specs.Movers.{accepted}
 
 -- 1: to the new form; else to the old.
 abbrev pub movedAs : (asked : ℕ) → (file : List ℕ) → (room : ℕ) → meaning.Outcome
@@ -49,21 +49,18 @@ module _ (deck : List ℕ) (named ratio : ℕ) (lent : Lent) (a : Answer) (work 
       rw (many, under) at (roomy named ratio (s .time .ordinates) (blockCount (s .results)) (length (s .results)) lent (s .room))
 
 -- a move is of as many bytes as stand first in the room
-unless-fits : (number : ℕ) (bytes : List ℕ) (lent : ℕ) (room : List ℕ) (n : ℕ) → moving.outcomeIs (move.Moved n) room ≡ movedUnless number bytes lent → n ≤ length room
-unless-fits zero bytes lent room n e =
-    let count : meaning.Moved n ≡ meaning.Moved (length bytes) = ap (λ (o : meaning.Outcome). o .answer) e in
-    let same : n ≡ length bytes = cc in
-    let left : room ≡ bytes ++ replicate (lent - length bytes) 0 = ap (λ (o : meaning.Outcome). o .room) e in
-    omega (arith, ap length left, length-append bytes (replicate (lent - length bytes) 0))
-unless-fits (suc number) bytes lent room n e =
-    let count : meaning.Moved n ≡ meaning.Unmoved (suc number) = ap (λ (o : meaning.Outcome). o .answer) e in
-    let z : _≡_ {A = ℕ} 0 1 = cc in
-    absurd (omega arith)
+module _ {size to : ℕ} {form : List ℕ → List ℕ} {faults : List (List ℕ) → ℕ} {way : List ℕ → ℕ → meaning.Outcome} (w : Way size to form faults way) where
+  way-fits : (file : List ℕ) (lent : ℕ) (room : List ℕ) (n : ℕ) → moving.outcomeIs (move.Moved n) room ≡ way file lent → n ≤ length room
+  way-fits file lent room n e =
+      let a = accepted w file lent n (sym (ap (λ (o : meaning.Outcome). o .answer) e)) in
+      let behind : List ℕ = replicate (lent - length (movedBy form size file)) 0 in
+      let whole : room ≡ movedBy form size file ++ behind = ap (λ (o : meaning.Outcome). o .room) (e ∙ a .comes) in
+      omega (arith, a .count, ap length whole, length-append (movedBy form size file) behind)
 
 either-fits : (t : Bool) (file : List ℕ) (lent : ℕ) (room : List ℕ) (n : ℕ) → moving.outcomeIs (move.Moved n) room ≡ (if t then toNew file lent else toOld file lent) → n ≤ length room
-unfolding if_then_else_ toNew toOld movedBy
-either-fits true file lent room n e = unless-fits (newRefusal file lent) (movedBy newForm oldRecordSize file) lent room n e
-either-fits false file lent room n e = unless-fits (oldRefusal file lent) (movedBy oldForm recordSize file) lent room n e
+unfolding if_then_else_
+either-fits true file lent room n e = way-fits new-way file lent room n e
+either-fits false file lent room n e = way-fits old-way file lent room n e
 
 pub moved-fits : (asked : ℕ) (file : List ℕ) (lent : ℕ) (m : Move) (room : List ℕ) {n : ℕ} → moving.outcomeIs m room ≡ movedAs asked file lent → m ≡ move.Moved n → n ≤ length room
 moved-fits asked file lent m room {n} e told = either-fits (asked =? 1) file lent room n (rw told at e)
