@@ -13,14 +13,11 @@ ghost use Rattle.moving.specs.Tests.{tailPadding};
 ghost use Rattle.moving.specs.Faults.{faultOf, newFaults, oldFaults};
 ghost use Rattle.moving.specs.Ways.{refusalOf};
 
-// How many bytes a record has: the definitions' `recordSize`.
-pub const RECORD: usize = 40;
-
-// And how many in the old form: the definitions' `oldRecordSize`.
-pub const OLD: usize = 32;
-
 // Where the padding behind ratio and place begins.
 const TAIL: usize = 36;
+
+use results::OLD;
+use results::RECORD;
 
 // Ratio 100 and place 1, in two bytes each and the lowest first, as one number: it is read and written at once.
 const WHOLE: u64 = 65_636;
