@@ -1,9 +1,9 @@
 -- A record's bytes tested as one number of several bytes.
---     tailPadding      the padding behind ratio and place
+--     middlePadding    the padding before the sum; tailPadding: that behind ratio and place
 --     four-bytes       four bytes at the front of a list
 --     number-same      two runs of as many bytes are the same where their numbers are
 --     other-told       the ratio and the place, by their number
---     tail-told        the padding behind them, by its number
+--     middle-told, tail-told     that padding, by its number
 use Prim.Native.Nat.{ℕ, zero, suc, _+_, _*_, _≤_}
 use mathlib.Core.Path.{_≡_, refl, ap, _∙_}
 use mathlib.Core.Bool.{Bool, true, false, not, _&&_, _||_}
@@ -11,7 +11,8 @@ use mathlib.Core.List.{List, [], _∷_}
 use native.Mathlib.Omega.{arith}
 use borrow.Author.Tests.{eq-eqb, ne-eqb, eqb-true, eqb-false}
 use lib.ListN.{length, take, drop, getD, length-drop}
-use lib.Seq.{getD-drop}
+use native.Mathlib.Numerals.{add-one}
+use lib.Seq.{drop-cons}
 use Rattle.meaning.specs.Words.{_=?_, same}
 use Rattle.meaning.specs.Results.{recordSize, oldRecordSize}
 use Rattle.meaning.specs.Moving.{filled, otherRatio, wholeRatio}
@@ -19,6 +20,9 @@ use Rattle.sequences.specs.Bounds.{AllUpTo, bound-tail, bound-part}
 use Rattle.sequences.specs.Parts.{part, length-part}
 use Rattle.slices.specs.Bytes.{fromLittleEndian}
 use Rattle.moving.specs.Forms.{whole}
+
+abbrev pub middlePadding : List ℕ
+middlePadding = 22 ∷ 23 ∷ []
 
 abbrev pub tailPadding : List ℕ
 tailPadding = 36 ∷ 37 ∷ 38 ∷ 39 ∷ []
@@ -47,21 +51,41 @@ four-bytes (a ∷ b ∷ []) h = absurd (omega arith)
 four-bytes (a ∷ b ∷ c ∷ []) h = absurd (omega arith)
 four-bytes (a ∷ b ∷ c ∷ d ∷ xs) h = refl
 
-not-all : (a b c d : Bool) → not (a && (b && (c && (d && true)))) ≡ (not a || (not b || (not c || (not d || false))))
-not-all false b c d = refl
-not-all true false c d = refl
-not-all true true false d = refl
-not-all true true true false = refl
-not-all true true true true = refl
+-- PADDING. Bytes that stand one behind another are zero where their number is.
+places : (from count : ℕ) → List ℕ
+places a zero = []
+places a (suc n) = a ∷ places (a + 1) n
+
+anyByte : List ℕ → Bool
+anyByte [] = false
+anyByte (x ∷ xs) = not (x =? 0) || anyByte xs
+
+number-none : (xs : List ℕ) → not (fromLittleEndian xs =? 0) ≡ anyByte xs
+unfolding anyByte
+number-none [] = refl
+number-none (x ∷ xs) = go (x =? 0) (fromLittleEndian xs =? 0) refl refl ∙ ap (λ (t : Bool). not (x =? 0) || t) (number-none xs)
+  where
+    go : (s t : Bool) → (x =? 0) ≡ s → (fromLittleEndian xs =? 0) ≡ t → not (x + 256 * fromLittleEndian xs =? 0) ≡ (not s || not t)
+    go true true e f = rw (eq-eqb (x + 256 * fromLittleEndian xs) 0 (omega (arith, eqb-true x 0 e, eqb-true (fromLittleEndian xs) 0 f)))
+    go true false e f = rw (ne-eqb (x + 256 * fromLittleEndian xs) 0 (λ g. eqb-false (fromLittleEndian xs) 0 f (omega arith)))
+    go false t e f = rw (ne-eqb (x + 256 * fromLittleEndian xs) 0 (λ g. eqb-false x 0 e (omega arith)))
+
+any-places : (a n : ℕ) (r : List ℕ) → a + n ≤ length r → anyByte (part a n r) ≡ filled (places a n) r
+unfolding anyByte places
+any-places a zero r h = refl
+any-places a (suc n) r h =
+    let here : drop a r ≡ getD r a 0 ∷ drop (a + 1) r = drop-cons r a 0 (omega arith) ∙ rw (add-one a) in
+    rw here (ap (λ (t : Bool). not (getD r a 0 =? 0) || t) (any-places (a + 1) n r (omega arith)))
+
+pub middle-told : (r : List ℕ) → oldRecordSize ≤ length r → not (fromLittleEndian (part 22 2 r) =? 0) ≡ filled middlePadding r
+unfolding places
+middle-told r h = number-none (part 22 2 r) ∙ any-places 22 2 r (omega arith)
+
+pub tail-told : (r : List ℕ) → length r ≡ recordSize → not (fromLittleEndian (part 36 4 r) =? 0) ≡ filled tailPadding r
+unfolding places
+tail-told r h = number-none (part 36 4 r) ∙ any-places 36 4 r (omega arith)
 
 module _ (r : List ℕ) (size : length r ≡ recordSize) (bytes : AllUpTo 255 r) where
-  zeros-up : AllUpTo 255 (0 ∷ 0 ∷ 0 ∷ 0 ∷ [])
-  zeros-up zero = omega arith
-  zeros-up (suc zero) = omega arith
-  zeros-up (suc (suc zero)) = omega arith
-  zeros-up (suc (suc (suc zero))) = omega arith
-  zeros-up (suc (suc (suc (suc k)))) = omega arith
-
   whole-up : AllUpTo 255 wholeRatio
   whole-up zero = omega arith
   whole-up (suc zero) = omega arith
@@ -73,13 +97,3 @@ module _ (r : List ℕ) (size : length r ≡ recordSize) (bytes : AllUpTo 255 r)
   other-told =
       let long : length (part oldRecordSize 4 r) ≡ 4 = length-part oldRecordSize 4 r (omega arith) in
       ap not (number-same (part oldRecordSize 4 r) wholeRatio long (bound-part 255 oldRecordSize 4 r bytes) whole-up)
-
-  pub tail-told : not (fromLittleEndian (part 36 4 r) =? 0) ≡ filled tailPadding r
-  unfolding same
-  tail-told =
-      let long : length (part 36 4 r) ≡ 4 = length-part 36 4 r (omega arith) in
-      let enough : 4 ≤ length (drop 36 r) = simp length-drop (omega arith) in
-      let four = number-same (part 36 4 r) (0 ∷ 0 ∷ 0 ∷ 0 ∷ []) long (bound-part 255 36 4 r bytes) zeros-up in
-      let apart = four-bytes (drop 36 r) enough in
-      ap not four ∙ rw (apart, getD-drop 36 r 0 0, getD-drop 36 r 1 0, getD-drop 36 r 2 0, getD-drop 36 r 3 0)
-      (not-all (getD r 36 0 =? 0) (getD r 37 0 =? 0) (getD r 38 0 =? 0) (getD r 39 0 =? 0))

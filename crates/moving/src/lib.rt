@@ -36,10 +36,7 @@ fn is_filled(r: &[u8]) -> bool
     if r[7] != 0 {
         return true;
     }
-    if r[22] != 0 {
-        return true;
-    }
-    r[23] != 0
+    slices::read_le(&r[22..24]) != 0
 }
 
 // Padding that is not zero, behind the place.
@@ -164,7 +161,8 @@ fn put_new(to: &mut [u8], from: &[u8])
     ensures { λ _. ⌜ now (to .exit) ≡ newForm (now (from .entry)) ⌝ }
 {
     copy_old(to, from);
-    slices::put_le(&mut to[OLD..RECORD], WHOLE);
+    slices::put_le(&mut to[OLD..TAIL], WHOLE);
+    slices::put_le(&mut to[TAIL..RECORD], 0);
 }
 
 // A new record in the old form.

@@ -1,5 +1,4 @@
 -- Four bytes are zero where their number is.
-use native.Mathlib.Omega.{arith}
 use borrow.Author.Needs.{needs}
 use Rattle.moving.specs.Tests.{tail-told}
 use Rattle.moving.proofs.is_tail_filled.Statement.{statement}
@@ -7,9 +6,8 @@ use Rattle.moving.proofs.is_tail_filled.Tie as tie
 
 returns : tie.Need-returns
 returns c =
-    let known = c .before .before in
-    let start = known .before in
-    rw (c .read-le .ensures .0) (tail-told (start .args .r .now) (start .pre) (λ k. omega (arith, known .shared-slice-known .given k)))
+    let start = c .before .before .before in
+    rw (c .read-le .ensures .0) (tail-told (start .args .r .now) (start .pre))
 
 pub is-tail-filled-spec : {M : Type 1} → statement M
 is-tail-filled-spec =
