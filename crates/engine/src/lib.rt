@@ -61,7 +61,7 @@ pub fn run_listed(
         return refuse(worked.number, worked.line, work, ordinates, records);
     }
     let ratios = walked.ratios;
-    let count = rounds::count_of(ratios);
+    let count = lending::count_of(ratios);
     let answer = answers::settle(
         worked.nq,
         worked.blocks,

@@ -7,7 +7,3 @@ pub mod Tests
 pub mod Faults
 pub mod Ways
 pub mod Outcomes
-pub mod Joined
-pub mod Movers
-pub mod Undone
-pub mod ThereAndBack

@@ -17,13 +17,8 @@ use Rattle.walking.specs.declared.Walked.{Walked}
 use Rattle.walking.specs.Said.{saidBy, said, saidOf}
 use Rattle.rounds.specs.declared.Wanted.{Wanted}
 use Rattle.rounds.specs.Every.{EveryDone, EveryBy, EveryIs}
-use Rattle.rounds.proofs.count_of.Kinds as count-of
-use Rattle.rounds.proofs.count_of.Reads as count-of-says
 use Rattle.rounds.proofs.walk_every.Kinds as walk-every
 use Rattle.rounds.proofs.walk_every.Reads as walk-every-says
-
-pub one-count-of : Once count-of.ps count-of.r count-of-says.Post (λ κs x y e f. x ≡ y)
-one-count-of κs a x y e f p q = p ∙ sym q
 
 said-by : (t : Bool) (deck : List ℕ) (wanted : Wanted) (n m : ℕ) (listed : List ℕ) (w : Worked) (ordinates records : List ℕ) → EveryBy t deck wanted n m listed w ordinates records
     → saidBy t (w .number) (w .line) (w .nq) (w .blocks) listed ≡ saidOf (worked deck)

@@ -1,4 +1,3 @@
 -- Laws of the rounds of a run.
-pub mod Lent
 pub mod Rounds
 pub mod Every

@@ -1,5 +1,5 @@
 -- What holds between two rounds.
---     Tells, soonerOf    what a round has found, as the code tells it; and of two rounds what is met first
+--     Tells              what a round has found, as the code tells it
 --     Rounds             what holds after so many rounds; Begun: after the first one, with the deck's ratios
 --     round-first, round-more    that it does
 use Prim.Native.Nat.{ℕ, _+_, _-_, _*_, _≤_, _<_, min}
@@ -23,24 +23,15 @@ use Rattle.passes.specs.Apart.{comesFirst, sooner, ratioCount}
 use Rattle.passes.specs.Loop as loop
 use Rattle.passes.specs.Loop.{WalkIs, Holds, HoldsOf, Stands, OrdinatesLent, holds-first, holds-more, holds-refused, holds-still-refused, lent-zeros, loop-first, loop-more, loop-found}
 use Rattle.turns.specs.declared.Worked.{Worked}
+use Rattle.lending.specs.Sooner.{soonerBy, soonerOf}
 use Rattle.walking.specs.declared.Walked.{Walked}
 use Rattle.walking.specs.Going.{DoneIs, WorkedBy, WorkedIs, WalkedIs}
 use Rattle.rounds.specs.declared.Wanted.{Wanted}
-use Rattle.rounds.specs.Lent.{ordinatesFrom, recordsFrom, ordinates-here, ordinates-else, records-refused, records-past, records-at, records-left}
+use Rattle.lending.specs.Lent.{ordinatesFrom, recordsFrom, ordinates-here, ordinates-else, records-refused, records-past, records-at, records-left}
 
 abbrev pub Tells : run.Worked → Worked → Type 0
 Tells (Stopped number line) w = (w .refused ≡ true) × (w .number ≡ number) × (w .line ≡ line)
 Tells (Done τ rss) w = (w .refused ≡ false) × (w .nq ≡ τ .ordinates) × (w .blocks ≡ blockCount rss)
-
--- of two rounds: by whether the next one and the one found are refused, and which comes first then
-abbrev pub soonerBy : (next found first : Bool) → Worked → Worked → Worked
-soonerBy false found first w v = w
-soonerBy true false first w v = v
-soonerBy true true true w v = w
-soonerBy true true false w v = v
-
-abbrev pub soonerOf : Worked → Worked → Worked
-soonerOf w v = soonerBy (v .refused) (w .refused) (comesFirst (w .number) (w .line) (v .number) (v .line)) w v
 
 -- THE CODE TELLS what is met first
 both-stopped : (next found first t : Bool) (n l m k : ℕ) (w v : Worked) → next ≡ true → found ≡ true → first ≡ t → Tells (Stopped n l) w → Tells (Stopped m k) v

@@ -22,7 +22,7 @@ use Rattle.moving.specs.declared.Move.the-variants as move
 use Rattle.moving.specs.Answers as moving
 use Rattle.moving.specs.Records.{movedBy}
 use Rattle.moving.specs.Ways.{Way, new-way, old-way}
-use Rattle.moving.specs.Movers.{accepted}
+use Rattle.files.specs.Movers.{accepted}
 
 -- 1: to the new form; else to the old.
 abbrev pub movedAs : (asked : ℕ) → (file : List ℕ) → (room : ℕ) → meaning.Outcome

@@ -21,8 +21,8 @@ use Rattle.printing.specs.Listed.{Lots, each-named}
 use Rattle.listing.specs.Fitting.{Fitting, done-fits}
 use Rattle.passes.specs.Together.{some-ratio}
 use Rattle.network.specs.Answers.{passed-all, passed-accepted}
-use Rattle.moving.specs.Joined.{Sized}
-use Rattle.moving.specs.ThereAndBack.{records-to-old, records-other}
+use Rattle.files.specs.Joined.{Sized}
+use Rattle.files.specs.ThereAndBack.{records-to-old, records-other}
 use Rattle.stored.specs.Records.{record-clean, record-whole, record-other, record-old, length-old-record}
 
 -- THE RECORDS, one by one: of a ratio, and of the ratios from place k on

@@ -7,7 +7,7 @@ use native.Mathlib.Omega.{arith}
 use lib.ListN.{length}
 use borrow.Author.Needs.{needs}
 use Rattle.sequences.specs.Parts.{length-part, put-tail}
-use Rattle.rounds.specs.Lent.{ordinates-within, zeros-part, zeros-drop}
+use Rattle.lending.specs.Lent.{ordinates-within, zeros-part, zeros-drop}
 use Rattle.rounds.specs.Rounds.{round-first}
 use Rattle.rounds.proofs.walk_first.Statement.{statement}
 use Rattle.rounds.proofs.walk_first.Tie as tie

@@ -7,7 +7,7 @@ use lib.ListN.{length, take, drop, replicate}
 use borrow.Author.Needs.{needs}
 use Rattle.sequences.specs.Parts.{part, length-part, put-tail}
 use Rattle.blocks.specs.Meant.{ratiosIs}
-use Rattle.rounds.specs.Lent.{ordinatesFrom, recordsFrom, ordinates-within, records-within, zeros-part, cleared-drop, cleared-take}
+use Rattle.lending.specs.Lent.{ordinatesFrom, recordsFrom, ordinates-within, records-within, zeros-part, cleared-drop, cleared-take}
 use Rattle.rounds.specs.Rounds.{records-zeros, round-more}
 use Rattle.rounds.proofs.walk_next.Statement.{statement}
 use Rattle.rounds.proofs.walk_next.Tie as tie

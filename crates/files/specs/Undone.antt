@@ -14,9 +14,9 @@ use Rattle.meaning.specs.Results.{littleEndian, recordSize, oldRecordSize}
 use Rattle.meaning.specs.Moving.{oldPadding, newPadding, wholeRatio, newForm, oldForm, filled, anyFilled, otherRatio, anyOther}
 use Rattle.sequences.specs.Choices.{both-hold, both-fail}
 use Rattle.sequences.specs.Refusals.{neither-met, not-met}
 use Rattle.moving.specs.Tests.{tailPadding, four-bytes}
-use Rattle.moving.specs.Joined.{Sized}
+use Rattle.files.specs.Joined.{Sized}
 use Rattle.moving.specs.Faults.{newFaults, oldFaults, filled-more}
 
 -- what stands behind the old bytes
 abbrev behind : List ℕ

@@ -6,8 +6,8 @@ use native.Mathlib.Omega.{arith}
 use lib.ListN.{length, take, replicate}
 use borrow.Author.Needs.{needs}
 use Rattle.sequences.specs.Parts.{part, length-part, put, put-tail}
-use Rattle.rounds.proofs.clear_from.Statement.{statement}
-use Rattle.rounds.proofs.clear_from.Tie as tie
+use Rattle.lending.proofs.clear_from.Statement.{statement}
+use Rattle.lending.proofs.clear_from.Tie as tie
 
 cleared : (a : ℕ) (xs ys : List ℕ) → a ≤ length xs → ys ≡ replicate (length (part a (length xs - a) xs)) 0 → put a (length xs - a) xs ys ≡ take a xs ++ replicate (length xs - a) 0
 cleared a xs ys h e =

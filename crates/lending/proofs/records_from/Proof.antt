@@ -5,9 +5,9 @@ use native.Mathlib.Omega.{arith}
 use borrow.Author.Tests.{lt-ltb, le-ltb}
 use borrow.Author.Needs.{needs}
 use Rattle.sequences.specs.Choices.{taken, passed}
-use Rattle.rounds.specs.Lent.{recordsFrom}
-use Rattle.rounds.proofs.records_from.Statement.{statement}
-use Rattle.rounds.proofs.records_from.Tie as tie
+use Rattle.lending.specs.Lent.{recordsFrom}
+use Rattle.lending.proofs.records_from.Statement.{statement}
+use Rattle.lending.proofs.records_from.Tie as tie
 
 returns : tie.Need-returns
 unfolding recordsFrom

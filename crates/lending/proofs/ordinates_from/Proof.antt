@@ -3,9 +3,9 @@ use mathlib.Core.Path.{refl}
 use borrow.Author.Tests.{eq-eqb, ne-eqb}
 use borrow.Author.Needs.{needs}
 use Rattle.sequences.specs.Choices.{taken, passed}
-use Rattle.rounds.specs.Lent.{ordinatesFrom}
-use Rattle.rounds.proofs.ordinates_from.Statement.{statement}
-use Rattle.rounds.proofs.ordinates_from.Tie as tie
+use Rattle.lending.specs.Lent.{ordinatesFrom}
+use Rattle.lending.proofs.ordinates_from.Statement.{statement}
+use Rattle.lending.proofs.ordinates_from.Tie as tie
 
 returns : tie.Need-returns
 unfolding ordinatesFrom

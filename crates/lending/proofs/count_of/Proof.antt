@@ -7,8 +7,8 @@ use lib.ListN.{length, take}
 use lib.Seq.{length-take-le}
 use borrow.Author.Needs.{needs}
 use Rattle.meaning.specs.Blocks.{orWhole}
-use Rattle.rounds.proofs.count_of.Statement.{statement}
-use Rattle.rounds.proofs.count_of.Tie as tie
+use Rattle.lending.proofs.count_of.Statement.{statement}
+use Rattle.lending.proofs.count_of.Tie as tie
 
 some-listed : (rs : List ℕ) → 0 < length rs → length (orWhole rs) ≡ length rs
 some-listed [] h = absurd (omega arith)

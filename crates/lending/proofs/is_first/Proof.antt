@@ -3,8 +3,8 @@ use mathlib.Core.Path.{refl}
 use borrow.Author.Tests.{eq-eqb, ne-eqb}
 use Rattle.sequences.specs.Choices.{taken, passed}
 use Rattle.passes.specs.Apart.{comesFirst}
-use Rattle.rounds.proofs.is_first.Statement.{statement}
-use Rattle.rounds.proofs.is_first.Tie as tie
+use Rattle.lending.proofs.is_first.Statement.{statement}
+use Rattle.lending.proofs.is_first.Tie as tie
 
 returns : tie.Need-returns
 unfolding comesFirst

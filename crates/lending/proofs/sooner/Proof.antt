@@ -4,9 +4,9 @@ use mathlib.Core.Bool.{Bool, true, false}
 use borrow.Author.Needs.{needs}
 use Rattle.turns.specs.declared.Worked.{Worked}
 use Rattle.passes.specs.Apart.{comesFirst}
-use Rattle.rounds.specs.Rounds.{soonerBy}
-use Rattle.rounds.proofs.sooner.Statement.{statement}
-use Rattle.rounds.proofs.sooner.Tie as tie
+use Rattle.lending.specs.Sooner.{soonerBy}
+use Rattle.lending.proofs.sooner.Statement.{statement}
+use Rattle.lending.proofs.sooner.Tie as tie
 
 -- the one found, or the next one, by the tests
 module _ (next found first : Bool) (w v : Worked) where

@@ -16,10 +16,10 @@ use Rattle.meaning.specs.Words.{_=?_, _<?_, met, first}
 use Rattle.meaning.specs.Moving.{recordsIn, joined, lengthRefusal, roomRefusal}
 use Rattle.meaning.specs.Moving.{Move, Moved, Unmoved, Outcome, movedUnless}
 use Rattle.sequences.specs.Refusals.{neither-met, not-met}
 use Rattle.moving.specs.Answers.{refusedIn, movedIn, unless-moved}
 use Rattle.moving.specs.Records.{movedBy}
-use Rattle.moving.specs.Joined.{Sized, joined-append, sized-map, sized-append, whole-joined, records-of, sized-records, joined-records, join-files}
+use Rattle.files.specs.Joined.{Sized, joined-append, sized-map, sized-append, whole-joined, records-of, sized-records, joined-records, join-files}
 use Rattle.moving.specs.Ways.{refusalOf, mover, Way}
 
 -- an answer with a count is no refusal, and one with a number is that refusal
 counted : (number : ℕ) (moved : List ℕ) (room n : ℕ) → movedUnless number moved room .answer ≡ Moved n → (number ≡ 0) × (n ≡ length moved)

@@ -12,10 +12,10 @@ use mathlib.Core.Logic.{_⊎_}
 use lib.ListN.{length, take, replicate}
 use Rattle.meaning.specs.Results.{recordSize, oldRecordSize}
 use Rattle.meaning.specs.Moving.{oldPadding, newPadding, newForm, oldForm, joined, anyFilled, anyOther, Moved, Unmoved, toNew, toOld}
-use Rattle.moving.specs.Joined.{Sized}
+use Rattle.files.specs.Joined.{Sized}
 use Rattle.moving.specs.Ways.{new-way, old-way}
-use Rattle.moving.specs.Movers.{records-move, records-refused, both-move, either-refused, go-back}
-use Rattle.moving.specs.Undone.{new-sound, new-undone, old-sound, old-undone}
+use Rattle.files.specs.Movers.{records-move, records-refused, both-move, either-refused, go-back}
+use Rattle.files.specs.Undone.{new-sound, new-undone, old-sound, old-undone}
 
 -- THERE AND BACK. A file of the old form that was moved: the bytes that were written, moved back into room enough, are the file, with zeros behind it.
 pub there-and-back : (file : List ℕ) (room n : ℕ) → toNew file room .answer ≡ Moved n → (room′ : ℕ) → length file ≤ room′
