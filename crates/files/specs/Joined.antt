@@ -13,7 +13,8 @@ use native.Mathlib.Omega.{arith}
 use lib.ListN.{length, drop, length-append, length-drop, take-append-drop}
 use lib.Seq.{length-take-le, take-at, drop-at}
 use Rattle.meaning.specs.Moving.{recordsFrom, recordsIn, joined}
-use Rattle.moving.specs.Records.{first-record, no-record, Makes}
+use Rattle.moving.specs.Records.{first-record, no-record}
+use Rattle.forms.specs.Forms.{Makes}
 
 abbrev pub Sized : (size : ℕ) → List (List ℕ) → Type 0
 Sized size [] = Unit

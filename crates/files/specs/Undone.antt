@@ -14,9 +14,10 @@ use Rattle.meaning.specs.Results.{littleEndian, recordSize, oldRecordSize}
 use Rattle.meaning.specs.Moving.{oldPadding, newPadding, wholeRatio, newForm, oldForm, filled, anyFilled, otherRatio, anyOther}
 use Rattle.sequences.specs.Choices.{both-hold, both-fail}
 use Rattle.sequences.specs.Refusals.{neither-met, not-met}
-use Rattle.moving.specs.Tests.{tailPadding, four-bytes}
+use Rattle.forms.specs.Tests.{tailPadding, four-bytes}
 use Rattle.files.specs.Joined.{Sized}
-use Rattle.moving.specs.Faults.{newFaults, oldFaults, filled-more}
+use Rattle.forms.specs.Fault.{filled-more}
+use Rattle.moving.specs.Faults.{newFaults, oldFaults}
 
 -- what stands behind the old bytes
 abbrev behind : List ℕ

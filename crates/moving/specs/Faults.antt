@@ -1,8 +1,6 @@
 -- What a file is refused for by its records, and the passes that find it.
 --     newFaults                    2: of records that are to become new
---     faultOf, oldFaults           2 and 3: of one record that is to become old, and of records
---     filled-more                  padding in two parts
---     fault-front, fault-tail, fault-other, fault-none     one record, by its tests
+--     oldFaults                    2 and 3: of records that are to become old
 --     faultAfter                   of the records that are left, where that refusal, or none, was noted in those before
 --     fault-stops, fault-goes      a record that the pass ends at, and one that it goes on from
 --     first-some                   of two refusals the first, where it is one
@@ -10,27 +8,20 @@
 --     pass-starts, pass-stops, pass-goes, pass-ends     the pass over a new file, at a place
 use Prim.Native.Nat.{ℕ, zero, suc, _+_, _≤_, _<_}
 use mathlib.Core.Path.{_≡_, refl, sym, ap, _∙_}
-use mathlib.Core.Bool.{Bool, true, false, not, _||_, or-assoc}
-use mathlib.Core.List.{List, [], _∷_, _++_}
+use mathlib.Core.Bool.{Bool, true, false, _||_}
+use mathlib.Core.List.{List, _∷_}
 use native.Mathlib.Omega.{arith}
-use lib.ListN.{length, drop, getD}
-use Rattle.meaning.specs.Words.{_=?_, met, first}
+use lib.ListN.{length, drop}
+use Rattle.meaning.specs.Words.{met, first}
 use Rattle.meaning.specs.Results.{recordSize, oldRecordSize}
 use Rattle.meaning.specs.Moving.{oldPadding, newPadding, recordsIn, filled, anyFilled, otherRatio, anyOther}
 use Rattle.sequences.specs.Parts.{part}
 use Rattle.sequences.specs.Refusals.{none-after}
 use Rattle.moving.specs.Records.{records-more, records-none}
-use Rattle.moving.specs.Tests.{tailPadding}
-
-pub filled-more : (ps qs : List ℕ) (r : List ℕ) → filled (ps ++ qs) r ≡ (filled ps r || filled qs r)
-filled-more [] qs r = refl
-filled-more (p ∷ ps) qs r = rw (filled-more ps qs r) (sym (or-assoc (not (getD r p 0 =? 0)) (filled ps r) (filled qs r)))
+use Rattle.forms.specs.Fault.{faultOf}
 
 abbrev pub newFaults : List (List ℕ) → ℕ
 newFaults rs = met (anyFilled oldPadding rs) 2
-
-abbrev pub faultOf : List ℕ → ℕ
-faultOf r = first (met (filled newPadding r) 2) (met (otherRatio r) 3)
 
 abbrev pub oldFaults : List (List ℕ) → ℕ
 oldFaults rs = first (met (anyFilled newPadding rs) 2) (met (anyOther rs) 3)
@@ -41,28 +32,6 @@ faultAfter found rs = first (met (anyFilled newPadding rs) 2) (first (met (anyOt
 pub first-some : (m n : ℕ) → (m ≡ 0 → ⊥) → m ≡ first m n
 first-some zero n some = absurd (some refl)
 first-some (suc m) n some = refl
-
--- one record, by its three tests
-module _ (r : List ℕ) where
-  padding-apart : filled newPadding r ≡ (filled oldPadding r || filled tailPadding r)
-  padding-apart = filled-more oldPadding tailPadding r
-
-  by-tests : (a b o : Bool) → filled oldPadding r ≡ a → filled tailPadding r ≡ b → otherRatio r ≡ o → first (met (a || b) 2) (met o 3) ≡ faultOf r
-  by-tests a b o e f g =
-      let both : filled newPadding r ≡ (a || b) = padding-apart ∙ rw (e, f) in
-      sym (ap (λ (t : Bool). first (met t 2) (met (otherRatio r) 3)) both ∙ ap (λ (t : Bool). first (met (a || b) 2) (met t 3)) g)
-
-  pub fault-front : filled oldPadding r ≡ true → 2 ≡ faultOf r
-  fault-front e = by-tests true (filled tailPadding r) (otherRatio r) e refl refl
-
-  pub fault-tail : filled oldPadding r ≡ false → filled tailPadding r ≡ true → 2 ≡ faultOf r
-  fault-tail e f = by-tests false true (otherRatio r) e f refl
-
-  pub fault-other : filled oldPadding r ≡ false → filled tailPadding r ≡ false → otherRatio r ≡ true → 3 ≡ faultOf r
-  fault-other e f g = by-tests false false true e f g
-
-  pub fault-none : filled oldPadding r ≡ false → filled tailPadding r ≡ false → otherRatio r ≡ false → 0 ≡ faultOf r
-  fault-none e f g = by-tests false false false e f g
 
 -- records, one after another
 module _ (found : ℕ) (r : List ℕ) (rs : List (List ℕ)) where

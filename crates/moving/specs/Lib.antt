@@ -2,8 +2,6 @@
 pub mod Answers
 pub mod Records
 pub mod Loops
-pub mod Forms
-pub mod Tests
 pub mod Faults
 pub mod Ways
 pub mod Outcomes

@@ -10,7 +10,8 @@ use lib.ListN.{length, take, drop, length-append, take-append-drop}
 use lib.Seq.{length-take-le, drop-drop}
 use Rattle.meaning.specs.Moving.{joined}
 use Rattle.sequences.specs.Parts.{part, put, length-part, length-put, take-through, drop-put}
-use Rattle.moving.specs.Records.{records-more, records-none, movedBy, Makes}
+use Rattle.moving.specs.Records.{records-more, records-none, movedBy}
+use Rattle.forms.specs.Forms.{Makes}
 
 -- How many they are, and what the room then holds: what is behind them is as it was.
 pub record MovedTo (moved room₀ room : List ℕ) (n : ℕ) : Type 0 where

@@ -12,6 +12,7 @@ use native.Mathlib.Omega.{arith}
 use lib.ListN.{length, take, drop, length-append, length-drop}
 use lib.Seq.{drop-drop, length-take-le}
 use Rattle.meaning.specs.Moving.{recordsFrom, recordsIn, joined}
+use Rattle.forms.specs.Forms.{Makes}
 
 module _ (size : ℕ) where
   pub first-record : (file : List ℕ) → 0 < size → size ≤ length file → recordsIn size file ≡ take size file ∷ recordsIn size (drop size file)
@@ -38,10 +39,6 @@ module _ (size : ℕ) where
 
 unfoldable pub movedBy : (form : List ℕ → List ℕ) → (size : ℕ) → List ℕ → List ℕ
 movedBy form size file = joined (map form (recordsIn size file))
-
--- A form makes so many bytes of a record of so many.
-abbrev pub Makes : (form : List ℕ → List ℕ) → (size to : ℕ) → Type 0
-Makes form size to = (r : List ℕ) → length r ≡ size → length (form r) ≡ to
 
 module _ (form : List ℕ → List ℕ) (size to : ℕ) (makes : Makes form size to) where
   length-from : (count : ℕ) (file : List ℕ) → count * size ≤ length file → length (joined (map form (recordsFrom size count file))) ≡ count * to

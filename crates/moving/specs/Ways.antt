@@ -12,8 +12,8 @@ use Rattle.meaning.specs.Words.{met, first}
 use Rattle.meaning.specs.Results.{recordSize, oldRecordSize}
 use Rattle.meaning.specs.Moving.{oldPadding, newPadding, newForm, oldForm, recordsIn, filled, anyFilled, otherRatio, anyOther, lengthRefusal, roomRefusal}
 use Rattle.meaning.specs.Moving.{Outcome, movedUnless, toNew, toOld}
-use Rattle.moving.specs.Records.{movedBy, Makes}
-use Rattle.moving.specs.Forms.{new-makes, old-makes}
+use Rattle.moving.specs.Records.{movedBy}
+use Rattle.forms.specs.Forms.{Makes, new-makes, old-makes}
 use Rattle.moving.specs.Faults.{newFaults, oldFaults}
 
 abbrev pub refusalOf : (size : ℕ) (form : List ℕ → List ℕ) (faults : List (List ℕ) → ℕ) → (file : List ℕ) → (room : ℕ) → ℕ

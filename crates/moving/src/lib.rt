@@ -1,75 +1,22 @@
 // The mover: a result file from the old form to the new, and back, between lent bytes.
 ghost use mathlib.Core.Path.{_≡_};
-ghost use mathlib.Core.List.{_++_};
 ghost use Prim.Native.Nat.{_≤_};
-ghost use lib.ListN.{length, take, drop};
+ghost use lib.ListN.{length, take};
 ghost use Rattle.meaning.specs.Words.{_<?_, met, first};
 ghost use Rattle.meaning.specs.Results.{recordSize, oldRecordSize};
-ghost use Rattle.meaning.specs.Moving.{oldPadding, newForm, oldForm, recordsIn, filled, otherRatio, toNew, toOld};
+ghost use Rattle.meaning.specs.Moving.{newForm, oldForm, recordsIn, toNew, toOld};
 ghost use Rattle.moving.specs.Answers.{outcomeIs, refusedIn, movedIn};
 ghost use Rattle.moving.specs.Records.{movedBy};
 ghost use Rattle.moving.specs.Loops.{MovedTo};
-ghost use Rattle.moving.specs.Tests.{tailPadding};
-ghost use Rattle.moving.specs.Faults.{faultOf, newFaults, oldFaults};
+ghost use Rattle.moving.specs.Faults.{newFaults, oldFaults};
 ghost use Rattle.moving.specs.Ways.{refusalOf};
-
-// Where the padding behind ratio and place begins.
-const TAIL: usize = 36;
-
 use results::OLD;
 use results::RECORD;
-
-// Ratio 100 and place 1, in two bytes each and the lowest first, as one number: it is read and written at once.
-const WHOLE: u64 = 65_636;
 
 // What became of a file: how many bytes were moved, or the number of the refusal.
 pub enum Move {
     Moved(usize),
     Refused(u64),
-}
-
-// Padding that is not zero, among the bytes that both forms have.
-fn is_filled(r: &[u8]) -> bool
-    requires { ⌜ oldRecordSize ≤ length (now r) ⌝ }
-    ensures { λ t. ⌜ t ≡ filled oldPadding (now (r .entry)) ⌝ }
-{
-    if r[7] != 0 {
-        return true;
-    }
-    slices::read_le(&r[22..24]) != 0
-}
-
-// Padding that is not zero, behind the place.
-fn is_tail_filled(r: &[u8]) -> bool
-    requires { ⌜ length (now r) ≡ recordSize ⌝ }
-    ensures { λ t. ⌜ t ≡ filled tailPadding (now (r .entry)) ⌝ }
-{
-    slices::read_le(&r[TAIL..RECORD]) != 0
-}
-
-// A ratio that is not 100, or a place that is not 1.
-fn is_other(r: &[u8]) -> bool
-    requires { ⌜ length (now r) ≡ recordSize ⌝ }
-    ensures { λ t. ⌜ t ≡ otherRatio (now (r .entry)) ⌝ }
-{
-    slices::read_le(&r[OLD..TAIL]) != WHOLE
-}
-
-// What one record of the new form is refused for.
-fn fault_of(r: &[u8]) -> u64
-    requires { ⌜ length (now r) ≡ recordSize ⌝ }
-    ensures { λ n. ⌜ n ≡ faultOf (now (r .entry)) ⌝ }
-{
-    if is_filled(r) {
-        return 2;
-    }
-    if is_tail_filled(r) {
-        return 2;
-    }
-    if is_other(r) {
-        return 3;
-    }
-    0
 }
 
 // Of two refusals the first; 0 is none.
@@ -85,7 +32,7 @@ fn find_filled(file: &[u8]) -> u64
 {
     let mut at = 0;
     while at + OLD <= file.len() {
-        if is_filled(&file[at..at + OLD]) {
+        if forms::is_filled(&file[at..at + OLD]) {
             return 2;
         }
         at += OLD;
@@ -100,7 +47,7 @@ fn find_fault(file: &[u8]) -> u64
     let mut found = 0;
     let mut at = 0;
     while at + RECORD <= file.len() {
-        let fault = fault_of(&file[at..at + RECORD]);
+        let fault = forms::fault_of(&file[at..at + RECORD]);
         if fault == 2 {
             return fault;
         }
@@ -143,36 +90,6 @@ fn judge_new_file(file: &[u8], room: usize) -> u64
     keep_first(fault, short)
 }
 
-// The bytes that both forms have. Their number is a constant, so that they are moved in wide pieces.
-fn copy_old(to: &mut [u8], from: &[u8])
-    requires { ⌜ (oldRecordSize ≤ length (now to)) × (oldRecordSize ≤ length (now from)) ⌝ }
-    ensures { λ _. ⌜ now (to .exit) ≡ take oldRecordSize (now (from .entry)) ++ drop oldRecordSize (now (to .entry)) ⌝ }
-{
-    let mut i = 0;
-    while i < OLD {
-        to[i] = from[i];
-        i += 1;
-    }
-}
-
-// An old record in the new form: ratio 100, place 1 and zeros behind it.
-fn put_new(to: &mut [u8], from: &[u8])
-    requires { ⌜ (length (now to) ≡ recordSize) × (length (now from) ≡ oldRecordSize) ⌝ }
-    ensures { λ _. ⌜ now (to .exit) ≡ newForm (now (from .entry)) ⌝ }
-{
-    copy_old(to, from);
-    slices::put_le(&mut to[OLD..TAIL], WHOLE);
-    slices::put_le(&mut to[TAIL..RECORD], 0);
-}
-
-// A new record in the old form.
-fn put_old(to: &mut [u8], from: &[u8])
-    requires { ⌜ (length (now to) ≡ oldRecordSize) × (length (now from) ≡ recordSize) ⌝ }
-    ensures { λ _. ⌜ now (to .exit) ≡ oldForm (now (from .entry)) ⌝ }
-{
-    copy_old(to, from);
-}
-
 // Every record of an old file in the new form, from the front of the room on; how many bytes they are.
 fn move_old_file(file: &[u8], room: &mut [u8]) -> usize
     requires { ⌜ length (movedBy newForm oldRecordSize (now file)) ≤ length (now room) ⌝ }
@@ -181,7 +98,7 @@ fn move_old_file(file: &[u8], room: &mut [u8]) -> usize
     let mut q = 0;
     let mut p = 0;
     while p + OLD <= file.len() {
-        put_new(&mut room[q..q + RECORD], &file[p..p + OLD]);
+        forms::put_new(&mut room[q..q + RECORD], &file[p..p + OLD]);
         q += RECORD;
         p += OLD;
     }
@@ -196,7 +113,7 @@ fn move_new_file(file: &[u8], room: &mut [u8]) -> usize
     let mut q = 0;
     let mut p = 0;
     while p + RECORD <= file.len() {
-        put_old(&mut room[q..q + OLD], &file[p..p + RECORD]);
+        forms::put_old(&mut room[q..q + OLD], &file[p..p + RECORD]);
         q += OLD;
         p += RECORD;
     }

@@ -6,7 +6,8 @@ use lib.ListN.{length, drop}
 use Rattle.meaning.specs.Results.{recordSize}
 use Rattle.meaning.specs.Moving.{recordsIn}
 use Rattle.sequences.specs.Parts.{part, length-part}
-use Rattle.moving.specs.Faults.{faultOf, oldFaults, faultAfter, pass-starts, pass-stops, pass-goes, pass-ends}
+use Rattle.forms.specs.Fault.{faultOf}
+use Rattle.moving.specs.Faults.{oldFaults, faultAfter, pass-starts, pass-stops, pass-goes, pass-ends}
 use Rattle.moving.proofs.find_fault.Statement.{statement}
 use Rattle.moving.proofs.find_fault.Tie as tie
 

@@ -6,7 +6,7 @@ use lib.ListN.{length}
 use Rattle.meaning.specs.Results.{recordSize, oldRecordSize}
 use Rattle.meaning.specs.Moving.{newForm}
 use Rattle.sequences.specs.Parts.{part, put, length-part}
-use Rattle.moving.specs.Forms.{new-makes}
+use Rattle.forms.specs.Forms.{new-makes}
 use Rattle.moving.specs.Loops.{Moving, moving-starts, moving-fits, moving-goes, moving-ends}
 use Rattle.moving.proofs.move_old_file.Statement.{statement}
 use Rattle.moving.proofs.move_old_file.Tie as tie

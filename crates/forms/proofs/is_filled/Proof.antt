@@ -2,9 +2,9 @@
 use borrow.Author.Tests.{eq-eqb, ne-eqb}
 use borrow.Author.Needs.{needs}
 use lib.ListN.{getD}
-use Rattle.moving.specs.Tests.{middle-told}
-use Rattle.moving.proofs.is_filled.Statement.{statement}
-use Rattle.moving.proofs.is_filled.Tie as tie
+use Rattle.forms.specs.Tests.{middle-told}
+use Rattle.forms.proofs.is_filled.Statement.{statement}
+use Rattle.forms.proofs.is_filled.Tie as tie
 
 returns : tie.Need-returns
 returns c = rw (ne-eqb (getD (c .before .before .before .args .r .now) 7 0) 0 (c .if1 .taken))

@@ -1,4 +1,5 @@
 -- The two forms of a record, as the code writes them.
+--     Makes            a form makes so many bytes
 --     whole            ratio 100 and place 1 as one number, as the code reads and writes them
 --     new-makes, old-makes     how many bytes the two forms have
 --     new-put, old-put         what is left where the old bytes are copied, and ratio, place and zeros written behind them
@@ -11,7 +12,10 @@ use lib.Seq.{length-take-le, take-all, take-at, drop-at}
 use Rattle.meaning.specs.Results.{littleEndian, recordSize, oldRecordSize}
 use Rattle.meaning.specs.Moving.{newForm, oldForm, wholeRatio}
 use Rattle.sequences.specs.Parts.{put}
-use Rattle.moving.specs.Records.{Makes}
+
+-- A form makes so many bytes of a record of so many.
+abbrev pub Makes : (form : List ℕ → List ℕ) → (size to : ℕ) → Type 0
+Makes form size to = (r : List ℕ) → length r ≡ size → length (form r) ≡ to
 
 abbrev pub whole : ℕ
 whole = 65_636

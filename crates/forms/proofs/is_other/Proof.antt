@@ -1,9 +1,9 @@
 -- Four bytes are those of ratio 100 and place 1 where their number is.
 use native.Mathlib.Omega.{arith}
 use borrow.Author.Needs.{needs}
-use Rattle.moving.specs.Tests.{other-told}
-use Rattle.moving.proofs.is_other.Statement.{statement}
-use Rattle.moving.proofs.is_other.Tie as tie
+use Rattle.forms.specs.Tests.{other-told}
+use Rattle.forms.proofs.is_other.Statement.{statement}
+use Rattle.forms.proofs.is_other.Tie as tie
 
 returns : tie.Need-returns
 returns c =

@@ -7,9 +7,9 @@ use borrow.Author.Needs.{needs}
 use lib.ListN.{length}
 use Rattle.meaning.specs.Results.{littleEndian, recordSize, oldRecordSize}
 use Rattle.sequences.specs.Parts.{put, length-part, length-put}
-use Rattle.moving.specs.Forms.{whole, new-put}
-use Rattle.moving.proofs.put_new.Statement.{statement}
-use Rattle.moving.proofs.put_new.Tie as tie
+use Rattle.forms.specs.Forms.{whole, new-put}
+use Rattle.forms.proofs.put_new.Statement.{statement}
+use Rattle.forms.proofs.put_new.Tie as tie
 
 returns : tie.Need-returns
 returns c =

@@ -19,7 +19,7 @@ use Rattle.meaning.specs.Moving.{filled, otherRatio, wholeRatio}
 use Rattle.sequences.specs.Bounds.{AllUpTo, bound-tail, bound-part}
 use Rattle.sequences.specs.Parts.{part, length-part}
 use Rattle.slices.specs.Bytes.{fromLittleEndian}
-use Rattle.moving.specs.Forms.{whole}
+use Rattle.forms.specs.Forms.{whole}
 
 abbrev pub middlePadding : List ℕ
 middlePadding = 22 ∷ 23 ∷ []

@@ -1,8 +1,8 @@
 -- The copy fills all of the room.
 use borrow.Author.Needs.{needs}
-use Rattle.moving.specs.Forms.{old-put}
-use Rattle.moving.proofs.put_old.Statement.{statement}
-use Rattle.moving.proofs.put_old.Tie as tie
+use Rattle.forms.specs.Forms.{old-put}
+use Rattle.forms.proofs.put_old.Statement.{statement}
+use Rattle.forms.proofs.put_old.Tie as tie
 
 returns : tie.Need-returns
 returns c =

@@ -6,8 +6,8 @@ use native.Mathlib.Omega.{arith}
 use lib.ListN.{length, take, drop, length-set, take-append-drop}
 use lib.Seq.{take-suc, take-suc-set, drop-set-lt, drop-drop}
 use Rattle.meaning.specs.Results.{oldRecordSize}
-use Rattle.moving.proofs.copy_old.Statement.{statement}
-use Rattle.moving.proofs.copy_old.Tie as tie
+use Rattle.forms.proofs.copy_old.Statement.{statement}
+use Rattle.forms.proofs.copy_old.Tie as tie
 
 abbrev Inv-loop : tie.InvT-loop
 Inv-loop to₀ from i₀ to i = (i ≤ oldRecordSize) × (length to ≡ length to₀) × (take i to ≡ take i from) × (drop i to ≡ drop i to₀)

@@ -1,9 +1,9 @@
 -- The three tests, in the definition's order.
 use mathlib.Core.Path.{sym, _∙_}
 use borrow.Author.Needs.{needs}
-use Rattle.moving.specs.Faults.{fault-front, fault-tail, fault-other, fault-none}
-use Rattle.moving.proofs.fault_of.Statement.{statement}
-use Rattle.moving.proofs.fault_of.Tie as tie
+use Rattle.forms.specs.Fault.{fault-front, fault-tail, fault-other, fault-none}
+use Rattle.forms.proofs.fault_of.Statement.{statement}
+use Rattle.forms.proofs.fault_of.Tie as tie
 
 returns : tie.Need-returns
 returns c =

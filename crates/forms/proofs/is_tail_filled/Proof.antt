@@ -1,8 +1,8 @@
 -- Four bytes are zero where their number is.
 use borrow.Author.Needs.{needs}
-use Rattle.moving.specs.Tests.{tail-told}
-use Rattle.moving.proofs.is_tail_filled.Statement.{statement}
-use Rattle.moving.proofs.is_tail_filled.Tie as tie
+use Rattle.forms.specs.Tests.{tail-told}
+use Rattle.forms.proofs.is_tail_filled.Statement.{statement}
+use Rattle.forms.proofs.is_tail_filled.Tie as tie
 
 returns : tie.Need-returns
 returns c =

@@ -1,0 +1,4 @@
+-- A record in its two forms, and its tests.
+pub mod Forms
+pub mod Tests
+pub mod Fault
