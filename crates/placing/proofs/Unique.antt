@@ -6,12 +6,8 @@ use mathlib.Core.Bool.{false}
 use mathlib.Core.List.{List}
 use denote.Ref.{now}
 use Rattle.sequences.specs.Contracts.{Once, OnceAt}
-use Rattle.meaning.specs.Run.{Go, unless}
 use Rattle.blocks.specs.Meant.{nameIs}
-use Rattle.records.specs.Rows.{fieldRow}
-use Rattle.scanning.specs.Scans.{scannedOf}
-use Rattle.scanning.specs.WholeLine.{LineRead}
-use Rattle.placing.specs.Readings.{readingIs, Ready}
+use Rattle.placing.specs.Readings.{readingIs}
 use Rattle.placing.specs.Places.{placedEvent}
 use Rattle.placing.proofs.first_reading.Kinds as first-reading
 use Rattle.placing.proofs.first_reading.Reads as first-reading-says
@@ -23,10 +19,6 @@ use Rattle.placing.proofs.names.read_name.Kinds as read-name
 use Rattle.placing.proofs.names.read_name.Reads as read-name-says
 use Rattle.placing.proofs.places.place_record.Kinds as place-record
 use Rattle.placing.proofs.places.place_record.Reads as place-record-says
-use Rattle.placing.proofs.taking.take_control.Kinds as take-control
-use Rattle.placing.proofs.taking.take_control.Reads as take-control-says
-use Rattle.placing.proofs.taking.take_item.Kinds as take-item
-use Rattle.placing.proofs.taking.take_item.Reads as take-item-says
 
 pub one-first-reading : Once first-reading.ps first-reading.r first-reading-says.Post (λ κs x y e f. readingIs x (now (e .0)) ≡ readingIs y (now (f .0)))
 one-first-reading κs a x y e f p q = p .is ∙ sym (q .is)
@@ -43,16 +35,3 @@ one-name κs a x y e f p q = let same = p .bad ∙ sym (q .bad) in (same, λ h. 
 pub one-place : OnceAt place-record.ps place-record.r place-record-says.Post
     (λ κs a x y e f. (l : List ℕ) → placedEvent x (readingIs (a .0) (a .1 .0 .now)) l ≡ placedEvent y (readingIs (a .0) (a .1 .0 .now)) l)
 one-place κs a x y e f p q l = sym (p .0 l) ∙ q .0 l
-
--- of every line whose fields were passed so
-pub one-control : OnceAt take-control.ps take-control.r take-control-says.Post
-    (λ κs a x y e f.
-    (w : List ℕ) → Ready (a .0) w → (fs : List (List ℕ)) → LineRead (fieldRow (a .1 .0)) fs (scannedOf (a .1 .1 .0 .now) (a .1 .1 .1 .0))
-    → unless (x .refusal) (Go (readingIs (x .reading) w)) ≡ unless (y .refusal) (Go (readingIs (y .reading) w)))
-one-control κs a x y e f p q w ready fs read = p w ready .event fs read ∙ sym (q w ready .event fs read)
-
-pub one-item : OnceAt take-item.ps take-item.r take-item-says.Post
-    (λ κs a x y e f.
-    (fs : List (List ℕ)) → LineRead (fieldRow (a .1 .0)) fs (scannedOf (a .1 .1 .0 .now) (a .1 .1 .1 .0))
-    → unless x (Go (readingIs (a .0) (now (e .1 .1 .1 .1 .0)))) ≡ unless y (Go (readingIs (a .0) (now (f .1 .1 .1 .1 .0)))))
-one-item κs a x y e f p q fs read = p .event fs read ∙ sym (q .event fs read)

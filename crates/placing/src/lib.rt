@@ -1,13 +1,10 @@
-// What one line does where the reading stands: a record stands in its place or not, a KK line names a block, a line's values are taken. It looks for no next line.
+// Where the reading stands, and what one line does there: a record stands in its place or not, a KK line names a block. It looks for no next line.
 mod names;
 mod places;
-mod taking;
 
 pub use names::no_name;
 pub use names::read_name;
 pub use places::place_record;
-pub use taking::take_control;
-pub use taking::take_item;
 ghost use Prim.Native.Nat.{_≤_};
 ghost use lib.ListN.{length};
 ghost use Rattle.meaning.specs.Records.{table};
@@ -72,12 +69,6 @@ pub enum Placed {
     Named,
     Last,
     Fields(usize),
-}
-
-// A line's values taken: the refusal, 0 for none, and where the reading stands then.
-pub struct Read {
-    pub refusal: u64,
-    pub reading: Reading,
 }
 
 // The name that a KK line gives, and whether it is none.

@@ -79,9 +79,7 @@ fn write_end(out: &mut [u8], at: usize, blocks: u64) -> usize
     requires { ⌜ at + length (endLine blocks) ≤ length (now out) ⌝ }
     ensures { λ r. ⌜ Written (now (out .entry)) at (endLine blocks) (now (out .exit)) r ⌝ }
 {
-    let number = text::write_text(out, at, b"END ");
-    let end = text::write_whole(out, number, blocks);
-    text::write_byte(out, end, b'\n')
+    text::write_told(out, at, b"END ", blocks)
 }
 
 // The listing of an accepted run from its records, and from the ratios that are listed, if any are.

@@ -32,7 +32,7 @@ use Rattle.placing.specs.declared.Phase.the-variants as phase
 use Rattle.placing.specs.declared.Reading.{Reading}
 use Rattle.placing.specs.Readings.{readingBy, readingIs, openedIn, Ready}
 use Rattle.placing.specs.Places.{Due, fieldsEvent, nameEvent}
-use Rattle.placing.specs.Ratios.{ratio-faults}
+use Rattle.taking.specs.Ratios.{ratio-faults}
 use Rattle.sorting.specs.Sorted.{withFree}
 
 -- At `at` the line from there to `end` is the next, behind n lines; the reading stands at q, and comes to f.

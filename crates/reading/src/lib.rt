@@ -96,14 +96,14 @@ pub fn read_on(s: &[u8], from: usize, before: u64, start: Reading, cards: &mut [
                             c = span.next;
                         } else {
                             if item < records::RECORDS {
-                                let number = placing::take_item(r, item, &values, scan, cards);
+                                let number = taking::take_item(r, item, &values, scan, cards);
                                 if number != 0 {
                                     event = Event::Refused(number);
                                     break 'line;
                                 }
                                 continue 'line;
                             }
-                            let x = placing::take_control(r, item, &values, scan);
+                            let x = taking::take_control(r, item, &values, scan);
                             let refusal = x.refusal;
                             if refusal != 0 {
                                 event = Event::Refused(refusal);

@@ -18,7 +18,7 @@ use Rattle.scanning.specs.FieldsLeft.{left-less, left-near}
 use Rattle.reading.specs.declared.Event.the-variants as event
 use Rattle.blocks.specs.Meant.{timeIs}
 use Rattle.placing.specs.Places.{due-known, due-time}
-use Rattle.placing.specs.Taken.{stays}
+use Rattle.taking.specs.Taken.{stays}
 use Rattle.reading.specs.AtLine.{goes, opens-block, ends-deck, foreign-found, none-found, pass-fault, fault-event, ready-form, name-bad, name-good, fault-here, fault-later, scan-later}
 use Rattle.reading.proofs.read_on.Statement.{statement}
 use Rattle.reading.proofs.read_on.Tie as tie

@@ -27,9 +27,9 @@ use Rattle.reading.specs.declared.Event.the-variants as event
 use Rattle.placing.specs.declared.Reading.{Reading}
 use Rattle.blocks.specs.Meant.{timeIs}
 use Rattle.placing.specs.Readings.{readingIs, Ready}
-use Rattle.placing.specs.declared.Read.{Read}
+use Rattle.taking.specs.declared.Read.{Read}
 use Rattle.placing.specs.Places.{Due, nameEvent, fieldsEvent}
-use Rattle.placing.specs.Taken.{Passed, LineTaken}
+use Rattle.taking.specs.Taken.{Passed, LineTaken}
 use Rattle.sorting.specs.declared.Sorted.{Sorted}
 use Rattle.sorting.specs.Sorted.{SortedIs, known-as}
 use Rattle.sorting.specs.declared.Sorted.the-variants as sorted

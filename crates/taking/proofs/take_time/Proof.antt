@@ -3,9 +3,9 @@ use Prim.Native.Nat.{ℕ}
 use mathlib.Core.Path.{refl, ap}
 use mathlib.Core.List.{List}
 use borrow.Author.Needs.{needs}
-use Rattle.placing.specs.Taken.{timeTaken, withListed, timed-with}
-use Rattle.placing.proofs.taking.take_time.Statement.{statement}
-use Rattle.placing.proofs.taking.take_time.Tie as tie
+use Rattle.taking.specs.Taken.{timeTaken, withListed, timed-with}
+use Rattle.taking.proofs.take_time.Statement.{statement}
+use Rattle.taking.proofs.take_time.Tie as tie
 
 returns : tie.Need-returns
 returns c =

@@ -7,10 +7,10 @@ use native.Mathlib.Omega.{arith}
 use borrow.Author.Needs.{needs}
 use Rattle.meaning.specs.Words.{met}
 use Rattle.blocks.specs.Meant.{timeIs}
-use Rattle.placing.specs.Ratios.{none-there, some-there}
-use Rattle.placing.specs.Taken.{withListed, timed-with}
-use Rattle.placing.proofs.taking.take_ratios.Statement.{statement}
-use Rattle.placing.proofs.taking.take_ratios.Tie as tie
+use Rattle.taking.specs.Ratios.{none-there, some-there}
+use Rattle.taking.specs.Taken.{withListed, timed-with}
+use Rattle.taking.proofs.take_ratios.Statement.{statement}
+use Rattle.taking.proofs.take_ratios.Tie as tie
 
 abbrev seven : Bool → ℕ
 seven t = met t 7

@@ -2,9 +2,9 @@
 use mathlib.Core.List.{[]}
 use borrow.Author.Needs.{needs}
 use Rattle.scanning.specs.Scans.{scannedOf}
-use Rattle.placing.specs.Taken.{control-outside, time-few, time-line, ratio-line}
-use Rattle.placing.proofs.taking.take_control.Statement.{statement}
-use Rattle.placing.proofs.taking.take_control.Tie as tie
+use Rattle.taking.specs.Taken.{control-outside, time-few, time-line, ratio-line}
+use Rattle.taking.proofs.take_control.Statement.{statement}
+use Rattle.taking.proofs.take_control.Tie as tie
 
 returns : tie.Need-returns
 returns c = λ w ready.

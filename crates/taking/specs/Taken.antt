@@ -25,13 +25,13 @@ use Rattle.blocks.specs.Values.{counted-readable}
 use Rattle.limits.specs.Limits.{values-at-most}
 use Rattle.scanning.specs.Pass.{Scanned}
 use Rattle.scanning.specs.WholeLine.{fields-in, LineRead}
 use Rattle.placing.specs.declared.Phase.{Phase}
 use Rattle.placing.specs.declared.Phase.the-variants as phase
 use Rattle.placing.specs.declared.Reading.{Reading}
-use Rattle.placing.specs.declared.Read.{Read}
+use Rattle.taking.specs.declared.Read.{Read}
 use Rattle.placing.specs.Readings.{readingBy, readingIs, blockIs, Ready}
 use Rattle.placing.specs.Places.{Due, DueTime, fieldsEvent}
-use Rattle.placing.specs.Ratios.{keptRatios, noRatio, ratio-outside, ratio-number, ratio-listed}
+use Rattle.taking.specs.Ratios.{keptRatios, noRatio, ratio-outside, ratio-number, ratio-listed}
 
 -- A reading behind IT, under that time control: the code's, and one that means it.
 abbrev pub withTime : Reading → coded.Time → Reading

@@ -4,11 +4,11 @@ use native.Mathlib.Omega.{arith}
 use borrow.Author.Needs.{needs}
 use Rattle.blocks.specs.Meant.{timeIs}
 use Rattle.scanning.specs.Scans.{scannedOf}
 use Rattle.placing.specs.declared.Phase.the-variants as phase
 use Rattle.placing.specs.Places.{Due, due-inside}
-use Rattle.placing.specs.Taken.{item-outside, item-line}
-use Rattle.placing.proofs.taking.take_item.Statement.{statement}
-use Rattle.placing.proofs.taking.take_item.Tie as tie
+use Rattle.taking.specs.Taken.{item-outside, item-line}
+use Rattle.taking.proofs.take_item.Statement.{statement}
+use Rattle.taking.proofs.take_item.Tie as tie
 
 place : (c : tie.Start) → c .args .r .phase ≡ phase.InBlock
 place c = let x = c .args in due-inside (x .r .phase) (timeIs (x .r .time)) (x .item) (x .cards .now) (c .pre .0 .2) (c .pre .0 .0)

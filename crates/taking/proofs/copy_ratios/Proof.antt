@@ -1,8 +1,8 @@
 -- The copy leaves the ratios in front, and the count is theirs.
 use borrow.Author.Needs.{needs}
 use lib.Seq.{take-append-seam}
-use Rattle.placing.proofs.taking.copy_ratios.Statement.{statement}
-use Rattle.placing.proofs.taking.copy_ratios.Tie as tie
+use Rattle.taking.proofs.copy_ratios.Statement.{statement}
+use Rattle.taking.proofs.copy_ratios.Tie as tie
 
 returns : tie.Need-returns
 returns c = (rw (c .before .copy-words .ensures) (take-append-seam _ _), c .before .before .before .before .pre)

@@ -1,10 +1,4 @@
 // A line's values taken, once its fields are read without a fault: into the time control, or into the open block.
-use super::Phase;
-use super::Read;
-use super::Reading;
-use blocks::Ratios;
-use blocks::Time;
-use scanning::Scan;
 ghost use mathlib.Core.Path.{_≡_};
 ghost use Prim.Native.Nat.{ℕ, _≤_, _<_};
 ghost use mathlib.Core.List.{List};
@@ -13,10 +7,21 @@ ghost use Rattle.meaning.specs.Records.{mostOrdinates};
 ghost use Rattle.records.specs.Rows.{items};
 ghost use Rattle.blocks.specs.Meant.{ratiosIs, timeIs};
 ghost use Rattle.scanning.specs.Scans.{scannedOf};
 ghost use Rattle.placing.specs.Readings.{Ready};
 ghost use Rattle.placing.specs.Places.{Due, DueTime};
-ghost use Rattle.placing.specs.Ratios.{anyZero};
-ghost use Rattle.placing.specs.Taken.{withTime, TimeTaken, RatiosTaken, Passed, LineTaken, stays};
+ghost use Rattle.taking.specs.Ratios.{anyZero};
+ghost use Rattle.taking.specs.Taken.{withTime, TimeTaken, RatiosTaken, Passed, LineTaken, stays};
+use blocks::Ratios;
+use blocks::Time;
+use placing::Phase;
+use placing::Reading;
+use scanning::Scan;
+
+// A line's values taken: the refusal, 0 for none, and where the reading stands then.
+pub struct Read {
+    pub refusal: u64,
+    pub reading: Reading,
+}
 
 // A value outside its limits.
 const OUTSIDE: u64 = 7;

@@ -3,9 +3,9 @@ use Prim.Native.Nat.{_-_, _≤_}
 use mathlib.Core.Path.{_≡_, refl, sym, _∙_}
 use lib.ListN.{length, drop}
 use borrow.Author.Needs.{needs}
-use Rattle.placing.specs.Ratios.{anyZero, zero-here, zero-later, zero-nowhere}
-use Rattle.placing.proofs.taking.has_zero.Statement.{statement}
-use Rattle.placing.proofs.taking.has_zero.Tie as tie
+use Rattle.taking.specs.Ratios.{anyZero, zero-here, zero-later, zero-nowhere}
+use Rattle.taking.proofs.has_zero.Statement.{statement}
+use Rattle.taking.proofs.has_zero.Tie as tie
 
 abbrev Inv-loop : tie.InvT-loop
 Inv-loop ratios i₀ i = (i ≤ length ratios) × (anyZero (drop i ratios) ≡ anyZero ratios)
