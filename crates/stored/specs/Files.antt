@@ -5,7 +5,7 @@
 use Prim.Native.Nat.{ℕ, _+_, _-_, _*_, _^_, _≤_, _<_}
 use mathlib.Core.Path.{_≡_, refl, sym, ap, _∙_}
 use mathlib.Core.Bool.{Bool, true, false}
-use mathlib.Core.List.{List, [], _∷_, _++_, append-nil, append-assoc, map}
+use mathlib.Core.List.{List, [], _∷_, _++_, append-nil, map}
 use native.Mathlib.Omega.{arith}
 use lib.ListN.{length, take, getD, replicate, length-append}
 use lib.Seq.{take-at}
@@ -13,7 +13,7 @@ use Rattle.sequences.specs.Choices.{both-fail}
 use Rattle.meaning.specs.Blocks.{Time, orWhole, ratiosOf, ratioAt}
 use Rattle.meaning.specs.Results.{Result, recordSize, oldRecordSize, oldRecordOf, recordOf, recordsOf}
 use Rattle.meaning.specs.Run.{Done, worked, Lent, Accepted, Outcome, blockCount, allRecords, recordBytes, outcome}
-use Rattle.meaning.specs.Moving.{newPadding, oldForm, joined, filled, anyFilled, otherRatio, anyOther, Moved, Unmoved, toOld}
+use Rattle.meaning.specs.Moving.{newPadding, oldForm, joined, anyFilled, anyOther, Moved, Unmoved, toOld}
 use Rattle.limits.specs.Within.{TimeWithin}
 use Rattle.results.specs.Records.{Each, length-record, length-records}
 use Rattle.figures.specs.Listed.{Fits}
@@ -21,7 +21,8 @@ use Rattle.printing.specs.Listed.{Lots, each-named}
 use Rattle.listing.specs.Fitting.{Fitting, done-fits}
 use Rattle.passes.specs.Together.{some-ratio}
 use Rattle.network.specs.Answers.{passed-all, passed-accepted}
-use Rattle.files.specs.Joined.{Sized}
+use Rattle.moving.specs.Ways.{any-filled-append, any-other-append}
+use Rattle.files.specs.Joined.{Sized, joined-append, sized-append}
 use Rattle.files.specs.ThereAndBack.{records-to-old, records-other}
 use Rattle.stored.specs.Records.{record-clean, record-whole, record-other, record-old, length-old-record}
 
@@ -32,10 +33,6 @@ recordsAt τ k rs = map (recordOf (ratioAt k τ) (k + 1)) rs
 abbrev recordsFrom : Time → ℕ → List (List Result) → List (List ℕ)
 recordsFrom τ k [] = []
 recordsFrom τ k (rs ∷ rss) = recordsAt τ k rs ++ recordsFrom τ (k + 1) rss
-
-joined-append : (xs ys : List (List ℕ)) → joined (xs ++ ys) ≡ joined xs ++ joined ys
-joined-append [] ys = refl
-joined-append (x ∷ xs) ys = rw (joined-append xs ys) (sym (append-assoc x (joined xs) (joined ys)))
 
 joined-records : (ratio place : ℕ) (rs : List Result) → joined (map (recordOf ratio place) rs) ≡ recordsOf ratio place rs
 joined-records ratio place [] = refl
@@ -53,10 +50,6 @@ length-all τ k blocks (rs ∷ rss) lots =
     omega (arith, length-append (recordsOf (ratioAt k τ) (k + 1) rs) (allRecords τ (k + 1) rss), one, lots .0 .0, rest)
 
 -- each of the new form's size, with zero padding
-sized-append : (xs ys : List (List ℕ)) → Sized recordSize xs → Sized recordSize ys → Sized recordSize (xs ++ ys)
-sized-append [] ys h g = g
-sized-append (x ∷ xs) ys h g = (h .0, sized-append xs ys (h .1) g)
-
 sized-at : (ratio place : ℕ) (rs : List Result) → Each Fits rs → Sized recordSize (map (recordOf ratio place) rs)
 sized-at ratio place [] fs = tt
 sized-at ratio place (r ∷ rs) fs = (length-record ratio place r (fs .0 .short), sized-at ratio place rs (fs .1))
@@ -64,14 +57,10 @@ sized-at ratio place (r ∷ rs) fs = (length-record ratio place r (fs .0 .short)
 sized-from : (τ : Time) (k blocks : ℕ) (rss : List (List Result)) → Lots blocks rss → Sized recordSize (recordsFrom τ k rss)
 sized-from τ k blocks [] lots = tt
 sized-from τ k blocks (rs ∷ rss) lots =
-    sized-append (recordsAt τ k rs) (recordsFrom τ (k + 1) rss) (sized-at (ratioAt k τ) (k + 1) rs (lots .0 .1)) (sized-from τ (k + 1) blocks rss (lots .1))
+    sized-append recordSize (recordsAt τ k rs) (recordsFrom τ (k + 1) rss) (sized-at (ratioAt k τ) (k + 1) rs (lots .0 .1)) (sized-from τ (k + 1) blocks rss (lots .1))
 
 clean-append : (xs ys : List (List ℕ)) → anyFilled newPadding xs ≡ false → anyFilled newPadding ys ≡ false → anyFilled newPadding (xs ++ ys) ≡ false
-unfolding anyFilled
-clean-append [] ys h g = g
-clean-append (x ∷ xs) ys h g =
-    let both = both-fail (filled newPadding x) (anyFilled newPadding xs) h in
-    rw (both .0, clean-append xs ys (both .1) g)
+clean-append xs ys h g = any-filled-append newPadding xs ys ∙ rw (h, g)
 
 clean-at : (ratio place : ℕ) (rs : List Result) → Each Fits rs → anyFilled newPadding (map (recordOf ratio place) rs) ≡ false
 unfolding anyFilled
@@ -112,12 +101,7 @@ first-whole τ e = by (τ .listed) e
 
 -- WHERE IT IS NOT: records that all have an old form are those of one ratio, 1.00
 plain-append : (xs ys : List (List ℕ)) → anyOther (xs ++ ys) ≡ false → (anyOther xs ≡ false) × (anyOther ys ≡ false)
-unfolding anyOther
-plain-append [] ys h = (refl, h)
-plain-append (x ∷ xs) ys h =
-    let both = both-fail (otherRatio x) (anyOther (xs ++ ys)) h in
-    let rest = plain-append xs ys (both .1) in
-    (rw (both .0, rest .0), rest .1)
+plain-append xs ys h = both-fail (anyOther xs) (anyOther ys) (sym (any-other-append xs ys) ∙ h)
 
 plain-lot : (ratio place blocks : ℕ) (rs : List Result) → 0 < blocks → (length rs ≡ blocks) × Each Fits rs → ratio < 256 ^ 2 → place < 256 ^ 2
     → anyOther (map (recordOf ratio place) rs) ≡ false → (ratio ≡ 100) × (place ≡ 1)
