@@ -31,9 +31,12 @@ falls s k i = (k ≤? i) && ((i - k) <? length (s .units))
 abbrev pub shareAt : Sheet → (k i : ℕ) → ℕ
 shareAt s k i = share (s .units) (s .excesses) i (i - k)
 
--- THE SUMS of the columns.
+-- What interval k brings to ordinate i; and THE SUM of a column.
+abbrev pub brings : Sheet → (i k : ℕ) → ℕ
+brings s i k = if falls s k i then shareAt s k i else 0
+
 abbrev pub columnSum : Sheet → ℕ → ℕ
-columnSum s i = sumTo (λ (k : ℕ). if falls s k i then shareAt s k i else 0) (s .intervals)
+columnSum s i = sumTo (brings s i) (s .intervals)
 
 abbrev pub columnSums : Sheet → List ℕ
 columnSums s = listFrom (columnSum s) 0 (s .intervals)
