@@ -90,18 +90,22 @@ pub record Rows (s : Sheet) (n k : ℕ) (q : List ℕ) : Type 0 where
   pub added : (i : ℕ) → i < n → getD q i 0 ≡ sumTo (brings s i) k
 
 module _ (s : Sheet) (n : ℕ) where
-  pub rows-none : Rows s n 0 (replicate n 0)
-  rows-none = record { long = length-replicate n 0; added = λ (i : ℕ) h. getD-alike n i 0 }
+  pub rows-none : (k : ℕ) (q : List ℕ) → k ≡ 0 → q ≡ replicate n 0 → Rows s n k q
+  rows-none k q none dry =
+      record {
+        long = ap length dry ∙ length-replicate n 0;
+        added = λ (i : ℕ) h. ap (λ (xs : List ℕ). getD xs i 0) dry ∙ getD-alike n i 0 ∙ ap (sumTo (brings s i)) (sym none);
+      }
 
-  -- room for one share more from an interval's own ordinate on, as long as no more than 300 were spread
-  pub rows-room : AllUpTo 9_999_999 (s .units) → AllUpTo mostExcess (s .excesses) → (k : ℕ) (q : List ℕ) → k ≤ 300 → Rows s n k q
-      → (j : ℕ) → j < length (part k (length q - k) q) → getD (part k (length q - k) q) j 0 + mostShare < 2 ^ 64
-  rows-room hu he k q few rows j h =
-      let all = part-to-end k q in
-      let within : k + j < n = omega (arith, rows .long, ap length all, length-drop k q, h) in
-      let there : getD (part k (length q - k) q) j 0 ≡ getD q (k + j) 0 = ap (λ (xs : List ℕ). getD xs j 0) all ∙ getD-drop k q j 0 in
-      let most = sumTo-bound (brings s (k + j)) mostShare k (λ (m : ℕ). brings-up s hu he (k + j) m) in
-      omega (arith, there, rows .added (k + j) within, most)
+  -- room for one share more from any ordinate on, as long as no more than 300 intervals were spread
+  pub rows-room : AllUpTo 9_999_999 (s .units) → AllUpTo mostExcess (s .excesses) → (k from : ℕ) (q : List ℕ) → k ≤ 300 → Rows s n k q
+      → (j : ℕ) → j < length (part from (length q - from) q) → getD (part from (length q - from) q) j 0 + mostShare < 2 ^ 64
+  rows-room hu he k from q few rows j h =
+      let all = part-to-end from q in
+      let within : from + j < n = omega (arith, rows .long, ap length all, length-drop from q, h) in
+      let there : getD (part from (length q - from) q) j 0 ≡ getD q (from + j) 0 = ap (λ (xs : List ℕ). getD xs j 0) all ∙ getD-drop from q j 0 in
+      let most = sumTo-bound (brings s (from + j)) mostShare k (λ (m : ℕ). brings-up s hu he (from + j) m) in
+      omega (arith, there, rows .added (from + j) within, most)
 
   -- an interval without excess brings nothing
   pub rows-dry : (k : ℕ) (q : List ℕ) → getD (s .excesses) k 0 ≡ 0 → Rows s n k q → Rows s n (k + 1) q
@@ -146,9 +150,11 @@ module _ (s : Sheet) (n : ℕ) where
             (below-or-not i k);
       }
 
-  pub rows-more : (k d : ℕ) (q row : List ℕ) → k ≤ n → Rows s n k q → d ≡ getD (s .excesses) k 0 → row ≡ spreadOver (s .units) d (part k (length q - k) q)
-      → Rows s n (k + 1) (put k (length q - k) q row)
-  rows-more k d q row within rows own made = rw (put-tail k q row) (added-row k d q row within rows own (rw (part-to-end k q) at made))
+  -- what is spread, and from where, is asked for by equations: a proof has to show that both are the interval's own
+  pub rows-more : (k from d : ℕ) (q row : List ℕ) → Rows s n k q → row ≡ spreadOver (s .units) d (part from (length q - from) q) → k ≤ n → from ≡ k → d ≡ getD (s .excesses) k 0
+      → Rows s n (k + 1) (put from (length q - from) q row)
+  rows-more k from d q row rows made within there own =
+      rw (there, put-tail k q row) (added-row k d q row within rows own (rw (there, part-to-end k q) at made))
 
   -- all that have excess
   pub rows-all : s .intervals ≤ n → (q : List ℕ) → Rows s n (s .intervals) q → ((k : ℕ) → s .intervals ≤ k → getD (s .excesses) k 0 ≡ 0)

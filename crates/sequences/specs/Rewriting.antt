@@ -17,8 +17,8 @@ pub record Rewritten (f : ℕ → ℕ) (q₀ q : List ℕ) (j : ℕ) : Type 0 wh
   pub same : (i : ℕ) → j ≤ i → getD q i 0 ≡ getD q₀ i 0
 
 module _ (f : ℕ → ℕ) (q₀ : List ℕ) where
-  pub rewritten-none : Rewritten f q₀ q₀ 0
-  rewritten-none = record { long = refl; done = λ (i : ℕ) h. absurd (omega arith); same = λ (i : ℕ) h. refl }
+  pub rewritten-none : (j : ℕ) → j ≡ 0 → Rewritten f q₀ q₀ j
+  rewritten-none j none = record { long = refl; done = λ (i : ℕ) h. absurd (omega arith); same = λ (i : ℕ) h. refl }
 
   pub rewritten-more : (q : List ℕ) (j v : ℕ) → Rewritten f q₀ q j → j < length q₀ → v ≡ f j → Rewritten f q₀ (set q j v) (j + 1)
   rewritten-more q j v r below is =

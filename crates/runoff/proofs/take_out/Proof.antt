@@ -42,7 +42,7 @@ take-out-spec =
     (tie.spec
     Inv-loop
     μ-loop
-    (λ c. (rewritten-none _ _, rewritten-none _ _, omega arith))
+    (λ c. (rewritten-none _ _ _ (omega arith), rewritten-none _ _ _ (omega arith), omega arith))
     (λ c. omega arith)
     (λ c. omega arith)
     cast-excess
