@@ -47,7 +47,7 @@ fn total_of(cards: &[u64]) -> Total
 }
 
 // What is made of the rain that it lists.
-fn storm_of(time: Time, cards: &[u64]) -> Storm
+pub fn storm_of(time: Time, cards: &[u64]) -> Storm
     requires { ⌜ Read (timeIs time) (now cards) ⌝ }
     ensures { λ r. ⌜ ((name : List ℕ) → r ≡ blockStorm (timeIs time) (blockOf name (now (cards .entry)))) ⌝ }
 {
