@@ -1,0 +1,2 @@
+-- That two outcomes which meet the contract of the search are equal.
+pub mod Unique
