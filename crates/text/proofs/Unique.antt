@@ -9,6 +9,10 @@ use Rattle.text.proofs.write_text.Kinds as write-text
 use Rattle.text.proofs.write_text.Reads as write-text-says
 use Rattle.text.proofs.write_whole.Kinds as write-whole
 use Rattle.text.proofs.write_whole.Reads as write-whole-says
+use Rattle.text.proofs.write_two_places.Kinds as write-two-places
+use Rattle.text.proofs.write_two_places.Reads as write-two-places-says
+use Rattle.text.proofs.write_six_places.Kinds as write-six-places
+use Rattle.text.proofs.write_six_places.Reads as write-six-places-says
 use Rattle.text.proofs.write_number.Kinds as write-number
 use Rattle.text.proofs.write_number.Reads as write-number-says
 use Rattle.text.proofs.write_amount.Kinds as write-amount
@@ -26,6 +30,12 @@ one-write-text κs a x y e f p q = written-once p q
 
 pub one-write-whole : Once write-whole.ps write-whole.r write-whole-says.Post (λ κs x y e f. (x ≡ y) × (now (e .0) ≡ now (f .0)))
 one-write-whole κs a x y e f p q = written-once p q
+
+pub one-write-two-places : Once write-two-places.ps write-two-places.r write-two-places-says.Post (λ κs x y e f. (x ≡ y) × (now (e .0) ≡ now (f .0)))
+one-write-two-places κs a x y e f p q = written-once p q
+
+pub one-write-six-places : Once write-six-places.ps write-six-places.r write-six-places-says.Post (λ κs x y e f. (x ≡ y) × (now (e .0) ≡ now (f .0)))
+one-write-six-places κs a x y e f p q = written-once p q
 
 pub one-write-number : Once write-number.ps write-number.r write-number-says.Post (λ κs x y e f. (x ≡ y) × (now (e .0) ≡ now (f .0)))
 one-write-number κs a x y e f p q = written-once p q

@@ -7,6 +7,8 @@ ghost use lib.ListN.{length};
 ghost use Rattle.meaning.specs.Lines.{blank};
 ghost use Rattle.meaning.specs.Fields.{trimEnd, isBlank};
 ghost use Rattle.meaning.specs.Listing.{digit, whole, twoPlaces};
+ghost use Rattle.meaning.specs.Sheet.{sixPlaces};
+ghost use Rattle.text.specs.Digits.{threeDigits};
 ghost use Rattle.text.specs.Line.{line};
 ghost use Rattle.text.specs.Written.{Written};
 
@@ -45,7 +47,7 @@ pub fn write_whole(out: &mut [u8], at: usize, x: u64) -> usize
 }
 
 // Hundredths, with two places.
-fn write_two_places(out: &mut [u8], at: usize, x: u64) -> usize
+pub fn write_two_places(out: &mut [u8], at: usize, x: u64) -> usize
     requires { ⌜ at + length (twoPlaces x) ≤ length (now out) ⌝ }
     ensures { λ r. ⌜ Written (now (out .entry)) at (twoPlaces x) (now (out .exit)) r ⌝ }
 {
@@ -53,6 +55,27 @@ fn write_two_places(out: &mut [u8], at: usize, x: u64) -> usize
     let tenths = write_byte(out, point, b'.');
     let hundredths = write_byte(out, tenths, digit_of(x / 10 % 10));
     write_byte(out, hundredths, digit_of(x % 10))
+}
+
+// The last three digits, zeros too.
+fn write_three_digits(out: &mut [u8], at: usize, x: u64) -> usize
+    requires { ⌜ at + 3 ≤ length (now out) ⌝ }
+    ensures { λ r. ⌜ Written (now (out .entry)) at (threeDigits x) (now (out .exit)) r ⌝ }
+{
+    let second = write_byte(out, at, digit_of(x / 100 % 10));
+    let third = write_byte(out, second, digit_of(x / 10 % 10));
+    write_byte(out, third, digit_of(x % 10))
+}
+
+// Millionths, with six places.
+pub fn write_six_places(out: &mut [u8], at: usize, x: u64) -> usize
+    requires { ⌜ at + length (sixPlaces x) ≤ length (now out) ⌝ }
+    ensures { λ r. ⌜ Written (now (out .entry)) at (sixPlaces x) (now (out .exit)) r ⌝ }
+{
+    let point = write_whole(out, at, x / 1_000_000);
+    let places = write_byte(out, point, b'.');
+    let last = write_three_digits(out, places, x / 1_000);
+    write_three_digits(out, last, x)
 }
 
 // A blank and a number.
