@@ -1,10 +1,11 @@
 -- How much room cells take: whatever the figure, at most cellSize bytes.
-use Prim.Native.Nat.{ℕ, _-_, _*_, _/_, _≤_}
+use Prim.Native.Nat.{ℕ, _+_, _-_, _*_, _/_, _≤_}
 use mathlib.Core.List.{List, []}
 use mathlib.Core.Bool.{Bool, true, false, _&&_}
 use native.Mathlib.Omega.{arith}
 use lib.ListN.{length, getD, length-append}
 use Rattle.text.specs.Digits.{whole-within, length-sixPlaces}
+use Rattle.text.specs.Written.{Written}
 use Rattle.meaning.specs.Words.{_≤?_, _<?_, if_then_else_}
 use Rattle.meaning.specs.Listing.{whole}
 use Rattle.meaning.specs.Sheet.{Measure, Units, Customary, sixPlaces, depthText, flowText, inchMillionths, cfsMillionths}
@@ -26,6 +27,10 @@ flow-short m flow = rw (flow-figure m flow) (figure-short m flow (cfsMillionths 
 
 pub depths-short : (m : Measure) (rain loss excess : ℕ) → length (depthsText m rain loss excess) ≤ depthsSize
 depths-short m rain loss excess = simp length-append (omega (arith, depth-short m rain, depth-short m loss, depth-short m excess))
+
+-- so is the place behind them
+pub behind-depths : (m : Measure) (rain loss excess : ℕ) {at behind : ℕ} {out next : List ℕ} → Written out at (depthsText m rain loss excess) next behind → behind ≤ at + depthsSize
+behind-depths m rain loss excess w = omega (arith, w .place, depths-short m rain loss excess)
 
 pub share-short : (m : Measure) (units : List ℕ) (excess k i : ℕ) → length (cell (shareBy m units excess k i)) ≤ cellSize
 unfolding shareBy if_then_else_

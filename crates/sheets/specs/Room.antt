@@ -14,6 +14,7 @@ use Rattle.meaning.specs.Lines.{lf}
 use Rattle.meaning.specs.Listing.{whole, twoPlaces}
 use Rattle.meaning.specs.Sheet.{Measure, Units, Customary, Sheet, measureName, titleLine, cellsFrom, flowText, headLine, rowLine, sumLine, rowsFrom, tableText}
 use Rattle.text.specs.Digits.{whole-within, length-twoPlaces}
+use Rattle.text.specs.Written.{Written}
 use Rattle.cells.specs.Sizes.{cellSize, depthsSize}
 use Rattle.cells.specs.Cells.{depthsText, shareBy}
 use Rattle.cells.specs.Room.{count-short, flow-short, depths-short, share-short}
@@ -27,6 +28,11 @@ numbers-short n = cells-short (λ (i : ℕ). whole (i + 1)) cellSize (λ (i : �
 
 pub shares-short : (m : Measure) (units : List ℕ) (excess k n : ℕ) → length (cellsFrom (shareBy m units excess k) 0 n) ≤ cellSize * n
 shares-short m units excess k n = cells-short (shareBy m units excess k) cellSize (share-short m units excess k) n
+
+-- and the place behind the shares
+pub behind-shares : (m : Measure) (units : List ℕ) (excess k n : ℕ) {at behind : ℕ} {out next : List ℕ} → Written out at (cellsFrom (shareBy m units excess k) 0 n) next behind
+    → behind ≤ at + cellSize * n
+behind-shares m units excess k n w = omega (arith, w .place, shares-short m units excess k n)
 
 pub flows-short : (m : Measure) (sums : List ℕ) (n : ℕ) → length (cellsFrom (λ (i : ℕ). flowText m (getD sums i 0)) 0 n) ≤ cellSize * n
 flows-short m sums n = cells-short (λ (i : ℕ). flowText m (getD sums i 0)) cellSize (λ (i : ℕ). flow-short m (getD sums i 0)) n

@@ -1,15 +1,15 @@
 -- The interval's number, its depths, its shares and the line's end, one behind another, in the cells that a row has room for.
 use Prim.Native.Nat.{_+_, _*_, _≤_}
 use native.Mathlib.Omega.{arith}
-use lib.ListN.{length, getD}
+use lib.ListN.{length}
 use Rattle.text.specs.Digits.{whole-within}
 use Rattle.text.specs.Written.{written-more}
 use Rattle.cells.specs.Sizes.{cellSize, depthsSize}
 use Rattle.cells.specs.Cells.{measureIs}
-use Rattle.cells.specs.Room.{depths-short}
+use Rattle.cells.specs.Room.{behind-depths}
 use Rattle.sheets.specs.Tables.{ruled}
 use Rattle.sheets.specs.Lines.{row-here}
-use Rattle.sheets.specs.Room.{shares-short}
+use Rattle.sheets.specs.Room.{behind-shares}
 use borrow.Author.Needs.{needs}
 use Rattle.sheets.proofs.write_row.Statement.{statement}
 use Rattle.sheets.proofs.write_row.Tie as tie
@@ -24,20 +24,16 @@ number c = c .before .before .before .before .before .before .before
 abbrev depths : tie.After-write-shares → tie.After-write-depths
 depths c = c .before .before .before .before .before
 
-behind-number : (c : tie.After-write-whole) → c .write-whole .result ≤ entry c .args .at + 20
-behind-number c = omega (arith, c .write-whole .ensures .place, whole-within (entry c .args .k + 1))
+from-number : (c : tie.After-write-whole) → c .write-whole .result ≤ entry c .args .at + 20
+from-number c = omega (arith, c .write-whole .ensures .place, whole-within (entry c .args .k + 1))
 
-behind-depths : (c : tie.After-write-depths) → c .write-depths .result ≤ entry (number c) .args .at + 20 + depthsSize
-behind-depths c =
-    let x = entry (number c) .args in
-    let short = depths-short (measureIs (x .measure)) (getD (x .rains .now) (x .k) 0) (getD (x .losses .now) (x .k) 0) (getD (x .excesses .now) (x .k) 0) in
-    omega (arith, c .write-depths .ensures .place, short, behind-number (number c))
+from-depths : (c : tie.After-write-depths) → c .write-depths .result ≤ entry (number c) .args .at + 20 + depthsSize
+from-depths c = omega (arith, behind-depths (measureIs (entry (number c) .args .measure)) _ _ _ (c .write-depths .ensures), from-number (number c))
 
-behind-shares : (c : tie.After-write-shares) → let x = entry (number (depths c)) .args in c .write-shares .result ≤ x .at + 20 + depthsSize + cellSize * length (x .excesses .now)
-behind-shares c =
+from-shares : (c : tie.After-write-shares) → let x = entry (number (depths c)) .args in c .write-shares .result ≤ x .at + 20 + depthsSize + cellSize * length (x .excesses .now)
+from-shares c =
     let x = entry (number (depths c)) .args in
-    let short = shares-short (measureIs (x .measure)) (x .units .now) (getD (x .excesses .now) (x .k) 0) (x .k) (length (x .excesses .now)) in
-    omega (arith, c .write-shares .ensures .place, short, behind-depths (depths c))
+    omega (arith, behind-shares (measureIs (x .measure)) (x .units .now) _ _ (length (x .excesses .now)) (c .write-shares .ensures), from-depths (depths c))
 
 write-whole-requires : tie.Need-write-whole-requires
 write-whole-requires c κs = omega (arith, whole-within (c .before .before .before .before .before .before .args .k + 1))
@@ -47,16 +43,16 @@ write-depths-requires c κs =
     let n = c .before .before .before .before .before .before in
     let s = entry n in
     let k = s .args .k in
-    (s .pre .0 .rains-up k, s .pre .0 .losses-up k, s .pre .0 .excesses-up k, omega (arith, behind-number n))
+    (s .pre .0 .rains-up k, s .pre .0 .losses-up k, s .pre .0 .excesses-up k, omega (arith, from-number n))
 
 write-shares-requires : tie.Need-write-shares-requires
 write-shares-requires c κs =
     let d = c .before .before .before .before in
     let s = entry (number d) in
-    (s .pre .0 .units-up, s .pre .0 .excesses-up (s .args .k), omega (arith, behind-depths d))
+    (s .pre .0 .units-up, s .pre .0 .excesses-up (s .args .k), omega (arith, from-depths d))
 
 write-byte-requires : tie.Need-write-byte-requires
-write-byte-requires c κs = omega (arith, behind-shares (c .before .before .before))
+write-byte-requires c κs = omega (arith, from-shares (c .before .before .before))
 
 returns : tie.Need-returns
 returns c =
@@ -67,9 +63,9 @@ returns c =
     let x = entry n .args in
     let room = entry n .pre .1 .1 in
     let text =
-    written-more (omega (arith, behind-shares h))
-    (written-more (omega (arith, behind-depths d))
-    (written-more (omega (arith, behind-number n)) (n .write-whole .ensures) (d .write-depths .ensures))
+    written-more (omega (arith, from-shares h))
+    (written-more (omega (arith, from-depths d))
+    (written-more (omega (arith, from-number n)) (n .write-whole .ensures) (d .write-depths .ensures))
     (h .write-shares .ensures))
     (end .write-byte .ensures) in
     row-here (measureIs (x .measure)) (ruled (x .units .now) (x .rains .now) (x .losses .now) (x .excesses .now)) (x .k) text
