@@ -18,7 +18,9 @@ fn find_losses(losses: &mut [u64], rains: &[u64], excesses: &[u64])
 {
     let mut k = 0;
     while k < losses.len() {
-        losses[k] = rains[k] - excesses[k];
+        let rain = rains[k];
+        let left = excesses[k];
+        losses[k] = rain - left;
         k += 1;
     }
 }

@@ -1,6 +1,5 @@
 -- `columns::find_losses` meets its contract: a loop that fills a list with a function of the place.
 use Prim.Native.Nat.{ℕ, _-_}
-use mathlib.Core.Path.{refl}
 use native.Mathlib.Omega.{arith}
 use lib.ListN.{length, getD}
 use Rattle.sequences.specs.Filling.{Filled, filled-none, filled-more, filled-all}
@@ -14,10 +13,10 @@ abbrev μ-loop : tie.MeasureT-loop
 μ-loop losses₀ rains excesses k₀ losses k = length losses₀ - k
 
 sub-losses : tie.Need-sub-losses Inv-loop μ-loop
-sub-losses c = c .before .before .before .before .pre .1 (c .before .before .before .loop .k)
+sub-losses c = omega (arith, c .before .before .before .before .pre .1 (c .before .before .before .loop .k))
 
 loop-again : tie.Need-loop-again Inv-loop μ-loop
-loop-again c = let l = c .before .before .before .loop in filled-more _ _ (l .losses) (l .k) _ (l .inv) (omega arith) refl
+loop-again c = let l = c .before .before .before .loop in filled-more _ _ (l .losses) (l .k) _ (l .inv) (omega arith) (omega arith)
 
 pub find-losses-spec : {M : Type 1} → statement M
 find-losses-spec =
