@@ -102,7 +102,8 @@ block-said deck σ bs (suc left) sound some few =
     let found : Finds (Sound σ bs) left (blockAt (linesOf deck) (BeforeTime Fixed) (suc left)) = rw sound at (finds-said deck left) in
     rw e (found (omega arith))
 
-pub block-done : (deck : List ℕ) (τ : Time) (rss : List (List Result)) (place number : ℕ) → worked deck ≡ Done τ rss → place < length rss → 0 < number → number ≤ blockCount rss
+pub block-done : (deck : List ℕ) (τ : Time) (rss : List (List Result)) (place number : ℕ) → worked deck ≡ Done τ rss → place < length rss
+    → 0 < number → number ≤ blockCount rss
     → blockAt (linesOf deck) (BeforeTime Fixed) number ≡ At τ (getD (blocksOf (getD rss place [])) (number - 1) (opened []))
 block-done deck τ rss place number done h some few =
     let d = done-as-said deck τ rss done in

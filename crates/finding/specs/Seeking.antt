@@ -33,7 +33,8 @@ abbrev placeFound : events.Found → (left : ℕ) → Place
 placeFound (Missing r line) left = Nowhere
 placeFound (Met e r line rest) left = placeBy e r left (λ (next : run.Reading) (n : ℕ). blockAt rest next n)
 
-block-met : (e : Event) (r : run.Reading) (left line : ℕ) (ls : List (List ℕ)) (go : run.Reading → events.Found) → ((next : run.Reading) → blockAt ls next left ≡ placeFound (go next) left)
+block-met : (e : Event) (r : run.Reading) (left line : ℕ) (ls : List (List ℕ)) (go : run.Reading → events.Found)
+    → ((next : run.Reading) → blockAt ls next left ≡ placeFound (go next) left)
     → placeBy e r left (λ (next : run.Reading) (n : ℕ). blockAt ls next n) ≡ placeFound (metBy e r line ls go) left
 block-met (Refuse number) r left line ls go ih = refl
 block-met (Go next) r left line ls go ih = ih next
@@ -46,7 +47,7 @@ block-found [] r left line = refl
 block-found (l ∷ ls) r left line =
     block-met (readLine r l) r left line ls (λ (next : run.Reading). nextEvent ls next (line + 1)) (λ (next : run.Reading). block-found ls next left (line + 1))
 
--- A KK BEFORE THE LAST of those that are left
+-- A LINE THAT CLOSES A BLOCK BEFORE IT: behind a KK the search goes on with one KK less, at the ZZ it ends
 kk-later : (left : ℕ) (next r : run.Reading) (rest : List (List ℕ)) → (left ≡ 0 → ⊥)
     → placeBy (Open next) r left (λ (next : run.Reading) (n : ℕ). blockAt rest next n) ≡ blockAt rest next (left - 1)
 kk-later zero next r rest some = absurd (some refl)
@@ -73,7 +74,8 @@ closed-by phase.InBlock r cards ready within =
     }
 
 -- after IT a block is opened under the time control and in the form that the reading's struct says
-opened-by : (p : Phase) (τ : Time) (form : Form) (b : Block) (name : List ℕ) → Timed (readingBy p τ form b) → InBlock τ form (opened name) ≡ openedIn (readingBy p τ form b) name
+opened-by : (p : Phase) (τ : Time) (form : Form) (b : Block) (name : List ℕ) → Timed (readingBy p τ form b)
+    → InBlock τ form (opened name) ≡ openedIn (readingBy p τ form b) name
 opened-by phase.BeforeTime τ form b name h = absurd h
 opened-by phase.BeforeBlocks τ form b name h = refl
 opened-by phase.InBlock τ form b name h = refl

@@ -42,7 +42,7 @@ fn found_at(r: Reading, there: bool) -> Found
     Found { there, time, name }
 }
 
-// The block of that number, from 1, as it is where a KK or the ZZ closes it. So many KK are left to be read before the one that closes it.
+// The block of that number, from 1, as it is where a KK or the ZZ closes it: `left` of the KK stand before that line. What is behind it is not read.
 pub fn find_block(deck: &[u8], number: usize, cards: &mut [u64]) -> Found
     requires { ⌜ wordsOf table ≤ length (now cards) ⌝ }
     ensures { λ x. ⌜ FoundIs (blockAt (linesOf (now (deck .entry))) (BeforeTime Fixed) number) x (now (cards .exit)) ⌝ }

@@ -1,7 +1,7 @@
--- Each event is a turn of the search. A refused line and the deck's end without ZZ find no block; a KK or ZZ closes the one looked for, where no KK is left, or one before it;
--- and each turn goes on further behind in the deck.
+-- Each event is a turn of the search. A refused line, and a deck without ZZ, has no block behind it; a KK or ZZ closes the block looked for, where no KK is left, or one
+-- before it. Each turn goes on further behind in the deck.
 use Prim.Native.Nat.{ℕ, _+_, _-_}
-use mathlib.Core.Path.{_≡_, refl, sym, ap, _∙_, subst}
+use mathlib.Core.Path.{_≡_, refl, sym, _∙_, subst}
 use mathlib.Core.Bool.{true, false, true≢false, false≢true}
 use mathlib.Core.List.{List}
 use mathlib.Core.Logic.{_⊎_, inl, inr, ⊎-elim}
@@ -17,7 +17,7 @@ use Rattle.placing.specs.Readings.{readingIs}
 use Rattle.reading.specs.declared.Event.{Event}
 use Rattle.reading.specs.declared.Event.the-variants as event
 use Rattle.reading.specs.Found.{FoundIs, Onward, OnwardBy}
-use Rattle.finding.specs.Place.{blockAt, foundAt}
+use Rattle.finding.specs.Place.{blockAt}
 use Rattle.finding.specs.Seeking.{Seeking, starts, refused, missing, kk-here, zz-here, zz-before, goes-on}
 use Rattle.finding.proofs.find_block.Statement.{statement}
 use Rattle.finding.proofs.find_block.Tie as tie
@@ -136,7 +136,8 @@ loop-again c =
     let x = c .before .before .open-block in
     record {
       seeking =
-          goes-on (turn p .loop .inv .seeking) (o .ready) (g .name) (g .at) (found p _ (is-kk m (c .before .before .before .before .if2 .left))) refl (o .within) (o .counted) (c .before .before .before .before .before .if1 .left) (x .ensures);
+          goes-on (turn p .loop .inv .seeking) (o .ready) (g .name) (g .at) (found p _ (is-kk m (c .before .before .before .before .if2 .left)))
+          refl (o .within) (o .counted) (c .before .before .before .before .before .if1 .left) (x .ensures);
       cards-long = x .kept .1 .1 .0 ∙ p .read-on .kept .1 .1 .1 .1 .0 ∙ turn p .loop .inv .cards-long;
     }
 
