@@ -1,0 +1,3 @@
+-- The sheet of a deck's block: its size, its text, and that the run's answer leads to it.
+pub mod Sizes
+pub mod Texts
