@@ -1,8 +1,9 @@
-/* The program around the engine and the mover: reads one deck, a bundle of
- * decks or a bundle of cases from standard input and prints listings (document
- * 01, 'A deck and its listing', and document 02, CR 3) or, in the full form,
- * all that the engine leaves in the room lent to it.  Likewise for files of
- * records and the mover (document 02, CR 4).
+/* The program around the engine, the mover and the sheet: reads one deck, a
+ * bundle of decks or a bundle of cases from standard input and prints listings
+ * (document 01, 'A deck and its listing', and document 02, CR 3) or, in the
+ * full form, all that the engine leaves in the room lent to it.  Likewise for
+ * files of records and the mover (document 02, CR 4), and for the sheets of
+ * runoff blocks (CR 5).
  *
  *   hec1                                  one deck, its listing
  *   hec1 --bundle                         length and deck, again and again
@@ -14,13 +15,17 @@
  *   hec1 --store                          what is asked, then a deck (0) or a
  *                                         file to move (1 to the new form, 2 to
  *                                         the old); writes bare records
+ *   hec1 --sheet                          K, R, length and deck, again: the
+ *                                         sheet of block K under ratio R
  *
  * Numbers in bundles have 4 bytes, little-endian.  Exit status 0 whether decks
  * and files are refused or not; 2 when the input is cut short, asks for what
- * there is not or the call is wrong.  With --store the refusal goes to standard
- * error, and so does INPUT CUT where nothing that is known is asked. */
+ * there is not or the call is wrong, and when a sheet does not add up to the
+ * engine's ordinates.  With --store the refusal goes to standard error, and so
+ * does INPUT CUT where nothing that is known is asked. */
 #include "engine.h"
 #include "mover.h"
+#include "sheet.h"
 
 #include <stdbool.h>
 #include <stdio.h>
@@ -168,23 +173,25 @@ static size_t count_not_zero(const uint64_t *words, size_t count)
 enum { RECORD_ROOM = BLOCK_LIMIT * RATIO_LIMIT * RECORD_BYTES };
 
 /* Room enough for every deck that can be accepted. */
-static struct answer run_roomy(size_t length, const uint8_t **record)
+static const struct room *enough_room(void)
 {
     static uint64_t work[WORK_WORDS];
     static uint64_t ordinates[ORDINATE_LIMIT];
     static uint8_t records[RECORD_ROOM];
-    const struct room room = {
+    static const struct room room = {
         work, WORK_WORDS, ordinates, ORDINATE_LIMIT, records, sizeof records
     };
 
-    *record = records;
-    return run_deck(deck, length, (struct named){ 0, 0 }, &room);
+    return &room;
 }
+
+static const struct named last_named = { 0, 0 };
 
 static void print_listing(size_t length)
 {
-    const uint8_t *record;
-    struct answer answer = run_roomy(length, &record);
+    const struct room *room = enough_room();
+    struct answer answer = run_deck(deck, length, last_named, room);
+    const uint8_t *record = room->records;
 
     if (answer.refusal != 0) {
         print_refusal(stdout, &answer);
@@ -293,13 +300,13 @@ static void print_move(enum direction direction, const uint8_t *file,
 
 static void store_deck(size_t length)
 {
-    const uint8_t *records;
-    struct answer answer = run_roomy(length, &records);
+    const struct room *room = enough_room();
+    struct answer answer = run_deck(deck, length, last_named, room);
 
     if (answer.refusal != 0)
         print_refusal(stderr, &answer);
     else
-        fwrite(records, RECORD_BYTES,
+        fwrite(room->records, RECORD_BYTES,
                (size_t)answer.blocks * answer.ratios.count, stdout);
 }
 
@@ -320,6 +327,42 @@ static void store_file(enum direction direction, const uint8_t *file,
         print_move_refusal(stderr, moved.refusal);
     else
         fwrite(room, 1, moved.bytes, stdout);
+}
+
+/* ---- Sheets ----------------------------------------------------------- */
+
+/* What a number names, counted from 1; 0 is the last. */
+static unsigned place_of(uint64_t number, unsigned count)
+{
+    return number == 0 ? count : (unsigned)number;
+}
+
+/* The engine's ordinates come from the same run that names kind and ratio. */
+static void print_sheet(size_t length, struct named named)
+{
+    static struct sheet sheet;
+    static char text[SHEET_ROOM];
+    const struct room *room = enough_room();
+    struct answer answer = run_deck(deck, length, named, room);
+
+    if (answer.refusal != 0) {
+        print_refusal(stdout, &answer);
+        return;
+    }
+
+    unsigned block = place_of(named.block, answer.blocks);
+    unsigned ratio = place_of(named.ratio, answer.ratios.count);
+    unsigned before = (ratio - 1) * answer.blocks + block - 1;
+    unsigned kind = room->records[before * RECORD_BYTES + RECORD_KIND];
+
+    if (kind != SHEET_KIND) {
+        printf("NO SHEET %u\n", kind);
+        return;
+    }
+    make_sheet(deck, length, block, answer.ratios.value[ratio - 1], &sheet);
+    if (!sums_are(&sheet, room->ordinates))
+        stop("the sums of a sheet are not the ordinates of its block");
+    fwrite(text, 1, write_sheet(&sheet, text), stdout);
 }
 
 /* ---- Reading ---------------------------------------------------------- */
@@ -346,7 +389,8 @@ static size_t read_only_deck(void)
 
 enum {
     CASE_NUMBERS = 6,
-    MOVE_NUMBERS = 3
+    MOVE_NUMBERS = 3,
+    SHEET_NUMBERS = 3
 };
 
 /* Reads numbers of 4 bytes.  False: the input ends where the first would
@@ -419,6 +463,17 @@ static void run_mover(void)
     }
 }
 
+static void run_sheets(void)
+{
+    uint32_t number[SHEET_NUMBERS];
+
+    while (read_numbers(number, SHEET_NUMBERS)) {
+        read_deck(number[2]);
+        print_sheet(number[2], (struct named){ number[0], number[1] });
+        puts("--");
+    }
+}
+
 /* Whoever starts this mode goes by what is said, not by a status: so an input
  * that is cut short is told like a refusal here, not as trouble. */
 static void run_store(void)
@@ -462,11 +517,12 @@ enum mode {
     CASES,
     MOVER,
     STORE,
+    SHEET,
     MODES
 };
 
 static const char *const mode_word[MODES] = {
-    "", "--full", "--bundle", "--cases", "--mover", "--store"
+    "", "--full", "--bundle", "--cases", "--mover", "--store", "--sheet"
 };
 
 /* The mode that a word asks for; LISTING has no word. */
@@ -518,6 +574,9 @@ int main(int argc, char **argv)
         break;
     case STORE:
         run_store();
+        break;
+    case SHEET:
+        run_sheets();
         break;
     case FULL:
         print_full(read_only_deck(), &wish);
