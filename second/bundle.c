@@ -1,8 +1,6 @@
 /* How the counters read their input; see bundle.h. */
 #include "bundle.h"
 
-#include "engine.h"
-
 #include <stdio.h>
 #include <stdlib.h>
 
@@ -36,16 +34,32 @@ static bool at_end(void)
     return first == EOF;
 }
 
-bool next_deck(const char *program, uint8_t *deck, size_t *length)
+/* A deck behind its length. */
+static void read_deck(const char *program, uint8_t *deck, size_t *length)
 {
-    if (at_end())
-        return false;
     *length = read_number(program);
     for (size_t left = *length; left > 0; ) {
         size_t part = left <= DECK_LIMIT ? left : DECK_LIMIT;
         read_bytes(program, deck, part);
         left -= part;
     }
+}
+
+bool next_deck(const char *program, uint8_t *deck, size_t *length)
+{
+    if (at_end())
+        return false;
+    read_deck(program, deck, length);
+    return true;
+}
+
+bool next_sheet(const char *program, struct sheet_case *sheet)
+{
+    if (at_end())
+        return false;
+    sheet->named.block = read_number(program);
+    sheet->named.ratio = read_number(program);
+    read_deck(program, sheet->deck, &sheet->length);
     return true;
 }
 

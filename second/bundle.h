@@ -1,8 +1,10 @@
-/* How the counters read their input: what hec1 --bundle or hec1 --mover reads,
- * from standard input.  An input that is cut short ends the program with status
- * 2; program is its name. */
+/* How the counters read their input: what hec1 --bundle, hec1 --mover or hec1
+ * --sheet reads, from standard input.  An input that is cut short ends the
+ * program with status 2; program is its name. */
 #ifndef BUNDLE_H
 #define BUNDLE_H
+
+#include "engine.h"
 
 #include <stdbool.h>
 #include <stddef.h>
@@ -26,5 +28,15 @@ struct move_case {
 /* False at the end of input.  A case that hec1 would not take ends the program
  * with status 2 as well. */
 bool next_move(const char *program, struct move_case *move);
+
+/* A case of the sheet. */
+struct sheet_case {
+    struct named named;
+    size_t length;
+    uint8_t deck[DECK_LIMIT];
+};
+
+/* False at the end of input. */
+bool next_sheet(const char *program, struct sheet_case *sheet);
 
 #endif

@@ -1,6 +1,6 @@
 /* The deck writer: seeded test decks for the engine of document 01, with the
-   storm totals, losses and ratios of document 02, CR 1 to CR 3, and files of
-   records for the mover of CR 4. */
+   storm totals, losses and ratios of document 02, CR 1 to CR 3, files of
+   records for the mover of CR 4 and decks for the sheet of CR 5. */
 #include <stdio.h>
 #include <stdlib.h>
 #include <string.h>
@@ -22,6 +22,8 @@ static const char help[] =
     "                                 deck\n"
     "decks moves SEED COUNT           COUNT cases of the mover: three 4-byte little-endian numbers (direction,\n"
     "                                 0 to the new form and 1 to the old; room; length) and the file\n"
+    "decks sheets SEED COUNT          COUNT cases of the sheet: three 4-byte little-endian numbers (named block,\n"
+    "                                 named ratio, deck length) and the deck\n"
     "decks pairs SEED COUNT           COUNT pairs of decks, as in a bundle; each pair draws one network\n"
     "                                 in two orders and two manners of writing\n"
     "decks sound SEED COUNT           COUNT lawful decks, as in a bundle\n"
@@ -324,6 +326,65 @@ static void moves(uint64_t seed, int count)
         number4((uint32_t)m.to_old);
         number4((uint32_t)m.room);
         out_deck(m.length);
+    }
+}
+
+/* ---- cases of the sheet ---- */
+
+/* each refusal that a deck can meet, as often as any other */
+static int any_refusal(void)
+{
+    int number = between(2, 17);
+    return number == 17 ? 18 : number;
+}
+
+/* A deck from a network with a block to be named, whose place is returned. */
+static int aimed_deck(int big)
+{
+    int aimed;
+    do {
+        aimed = big ? sheet_big_net(&net) : sheet_net(&net);
+        style_random(&style);
+        deck_write(&deck, &net, &style);
+    } while (deck_bytes(&deck, bytes) > LIMIT_BYTES);
+    return aimed;
+}
+
+/* The deck of a case; the block that is to be named, or 0 where it is any. */
+static int sheet_deck(void)
+{
+    int r = rnd(100), aimed = 0, number;
+    if (r < 15) {
+        sound(1);
+    } else if (r < 32) {
+        number = any_refusal();
+        base_for(number);
+        damage(&deck, &net, &style, number);
+    } else {
+        aimed = aimed_deck(0);
+        if (r < 35)
+            deck_mutate_lines(&deck);
+    }
+    return aimed;
+}
+
+/* One in a thousand is the longest there can be, and always names that block. */
+static void sheets(uint64_t seed, int count)
+{
+    int i;
+    uint32_t block, ratio;
+    for (i = 0; i < count; i++) {
+        rng_seed(seed, ((uint64_t)7 << 40) + (uint64_t)i);
+        fill_to = 0;
+        if (i % 1000 == 500) {
+            block = (uint32_t)aimed_deck(1);
+            ratio = (uint32_t)rnd(net.njr + 1);
+        } else {
+            sheet_named(&net, sheet_deck(), &block, &ratio);
+        }
+        number4(block);
+        number4(ratio);
+        out_deck(finish());
     }
 }
 
@@ -684,6 +745,8 @@ int main(int argc, char **argv)
             cases(seed, count);
         } else if (!strcmp(what, "moves")) {
             moves(seed, count);
+        } else if (!strcmp(what, "sheets")) {
+            sheets(seed, count);
         } else if (!strcmp(what, "pairs")) {
             pairs(seed, count);
         } else if (!strcmp(what, "one")) {

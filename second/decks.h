@@ -1,5 +1,5 @@
 /* Shared types of the deck writer.  All limits and records follow document 01
-   and document 02, CR 1, CR 3 and CR 4. */
+   and document 02, CR 1 and CR 3 to CR 5. */
 #ifndef DECKS_H
 #define DECKS_H
 
@@ -138,5 +138,10 @@ typedef struct {
 } Move;
 
 void move_case(Move *m, unsigned char *file);        /* file: LIMIT_MOVER bytes */
+
+/* ---- cases of the sheet ---- */
+int sheet_net(Net *n);             /* the place in the deck, from 1, of the block that is to be named */
+int sheet_big_net(Net *n);
+void sheet_named(const Net *n, int aimed, uint32_t *block, uint32_t *ratio);
 
 #endif
