@@ -1,8 +1,8 @@
 #!/bin/sh
 # command.sh [--program PROGRAM]
 # Tests the command ./hec1: listings, words of refusals, exit status, odd names, standard input, several files,
-# bundles, result files, input and output that fail, and how it builds the program; every transcript of docs/USERS.md; every deck
-# of examples/ against the listing beside it. The last line is 'N passed, M failed', and the exit status agrees.
+# bundles, result files, sheets, input and output that fail, and how it builds the program; every transcript of docs/USERS.md; every deck
+# of examples/ against the listing and the sheet beside it. The last line is 'N passed, M failed', and the exit status agrees.
 #
 # --program, to try this script itself: a program that ./hec1 is to start in place of the proved one.
 set -u
@@ -28,6 +28,7 @@ else
     "$hec1" </dev/null >/dev/null
     "$hec1" --bundle </dev/null >/dev/null || { echo "command.sh: there is no proved program" >&2; exit 2; }
     "$hec1" --to-new </dev/null >/dev/null || { echo "command.sh: there is no proved program" >&2; exit 2; }
+    printf '*FREE\nIT 60,,,1\nKK A\nBA 1\nPI\nLU\nUI\nZZ\n' | "$hec1" --sheet A >/dev/null || { echo "command.sh: there is no proved program" >&2; exit 2; }
 fi
 
 # same NAME EXPECTED GOT: two files must be equal
@@ -303,6 +304,155 @@ rm -f long.new long.old long.back
 input "$record_a"
 with 'a full device, a moved file' 2 'hec1: standard output: cannot be written to\n' '"$hec1" --to-new >/dev/full'
 
+# ---- sheets
+
+basin='ID POND\n*FREE\nIT 60,,,4\nKK UP\nBA 1.50\nPI 0.50,0.30,0.10\nLU 0.50,0.10\nUI 10,4\nKK RIV\nRM 1,1.00,0.20\nKK SIDE\nQI 1,2,2,1\nKK OUT\nHC 2\nZZ\n'
+printf '%b' "$basin" >basin.hc1
+head_of_4='interval,rain,loss,excess,1,2,3,4\n'
+# sheet_of RATIO NAME: the sheet of UP as it stands in this deck, under one of three ratios and another name
+sheet_of() {
+    printf '%s' "units,$1,$2\n$head_of_4"
+    case $1 in
+    1.00) printf '%s' '2,180000,60000,120000,,120000000,48000000,\nsum,,,,0,120000000,48000000,0\n' ;;
+    1.50) printf '%s' '1,450000,360000,90000,90000000,36000000,,\n2,270000,60000,210000,,210000000,84000000,\n3,90000,60000,30000,,,30000000,12000000\nsum,,,,90000000,246000000,114000000,12000000\n' ;;
+    0.50) printf '%s' 'sum,,,,0,0,0,0\n' ;;
+    esac
+    printf '%s' "inches and cfs,$1,$2\n$head_of_4"
+    case $1 in
+    1.00) printf '%s' '2,0.300000,0.100000,0.200000,,2.000000,0.800000,\nsum,,,,0.000000,2.000000,0.800000,0.000000\n' ;;
+    1.50) printf '%s' '1,0.750000,0.600000,0.150000,1.500000,0.600000,,\n2,0.450000,0.100000,0.350000,,3.500000,1.400000,\n3,0.150000,0.100000,0.050000,,,0.500000,0.200000\nsum,,,,1.500000,4.100000,1.900000,0.200000\n' ;;
+    0.50) printf '%s' 'sum,,,,0.000000,0.000000,0.000000,0.000000\n' ;;
+    esac
+}
+up=$(sheet_of 1.00 UP)
+input ''
+try 'a sheet, by the name' 0 "$up" '' "$hec1" --sheet UP basin.hc1
+try 'a sheet, by the number' 0 "$up" '' "$hec1" --sheet 1 basin.hc1
+try 'a sheet, by the number with zeros' 0 "$up" '' "$hec1" --sheet 001 basin.hc1
+try 'a sheet, behind --' 0 "$up" '' "$hec1" --sheet UP -- basin.hc1
+try 'a sheet under the one ratio' 0 "$up" '' "$hec1" --sheet UP --ratio 1 basin.hc1
+try 'a sheet under the one ratio, behind --' 0 "$up" '' "$hec1" --sheet UP --ratio 01 -- basin.hc1
+input "$basin"
+try 'a sheet from standard input' 0 "$up" '' "$hec1" --sheet UP
+try 'a sheet from standard input by its name' 0 "$up" '' "$hec1" --sheet UP -
+try 'a sheet from standard input under a ratio' 0 "$up" '' "$hec1" --sheet 1 --ratio 1 -
+input ''
+
+# ratios: one by its place, or all
+printf '%b' "$basin" | sed 's/^IT.*/&\nJR PREC,1.5,1,.5/' >three.hc1
+try 'sheets under all ratios' 0 "$(sheet_of 1.50 UP)$up$(sheet_of 0.50 UP)" '' "$hec1" --sheet UP three.hc1
+try 'the first ratio' 0 "$(sheet_of 1.50 UP)" '' "$hec1" --sheet UP --ratio 1 three.hc1
+try 'the second ratio' 0 "$up" '' "$hec1" --sheet 1 --ratio 2 three.hc1
+try 'the last ratio' 0 "$(sheet_of 0.50 UP)" '' "$hec1" --sheet UP --ratio 003 three.hc1
+for place in 0 4 10 33 99999999999999999999; do
+    try "no ratio $place" 2 '' "hec1: three.hc1: there is no ratio $place; the deck has 3 ratios\n" "$hec1" --sheet UP --ratio "$place" three.hc1
+done
+try 'no second ratio' 2 '' 'hec1: basin.hc1: there is no ratio 2; the deck has 1 ratio\n' "$hec1" --sheet UP --ratio 2 basin.hc1
+printf '%b' "$basin" | sed 's/^IT.*/&\nJR PREC,1.5/' >one.hc1
+try 'a JR with one ratio' 0 "$(sheet_of 1.50 UP)" '' "$hec1" --sheet UP one.hc1
+
+# other blocks
+try 'a routing has no sheet' 2 '' 'hec1: basin.hc1: block 2 is a routing; only a runoff block has a sheet\n' "$hec1" --sheet RIV basin.hc1
+try 'an inflow has no sheet' 2 '' 'hec1: basin.hc1: block 3 is an inflow; only a runoff block has a sheet\n' "$hec1" --sheet 3 basin.hc1
+try 'a confluence has no sheet' 2 '' 'hec1: three.hc1: block 4 is a confluence; only a runoff block has a sheet\n' "$hec1" --sheet OUT three.hc1
+for word in 5 0 00 XX up U P UPP 1.0 -1 +1 ' 1' 'U*' '' 256 99999999999999999999; do
+    try "no block '$word'" 2 '' "hec1: basin.hc1: there is no block '$word'; the deck has 4 blocks\n" "$hec1" --sheet "$word" basin.hc1
+done
+try 'no block of one' 2 '' "hec1: good.hc1: there is no block '2'; the deck has 1 block\n" "$hec1" --sheet 2 good.hc1
+try 'no block with a name of two lines' 2 '' "hec1: basin.hc1: there is no block 'A?B'; the deck has 4 blocks\n" "$hec1" --sheet 'A
+B' basin.hc1
+try 'neither block nor ratio' 2 '' "hec1: basin.hc1: there is no block 'XX'; the deck has 4 blocks\n" "$hec1" --sheet XX --ratio 2 basin.hc1
+try 'a routing, and no such ratio' 2 '' 'hec1: basin.hc1: there is no ratio 2; the deck has 1 ratio\n' "$hec1" --sheet RIV --ratio 2 basin.hc1
+
+# names: one that stands twice, ones that look like numbers, and odd ones
+printf '%b' "$basin" | sed 's/^KK SIDE/KK UP/' >twice.hc1
+try 'a name that stands twice' 2 '' "hec1: twice.hc1: 'UP' is the name of blocks 1 and 3; say which one by its number\n" "$hec1" --sheet UP twice.hc1
+try 'a name that stands twice, by the number' 0 "$up" '' "$hec1" --sheet 1 twice.hc1
+printf '%b' "$basin" | sed 's/^KK.*/KK UP/; s/^IT.*/&\nJR PREC,1,1/' >all.hc1
+try 'a name that all have' 2 '' "hec1: all.hc1: 'UP' is the name of blocks 1, 2, 3 and 4; say which one by its number\n" "$hec1" --sheet UP all.hc1
+printf '%b' "$basin" | sed 's/^KK UP/KK 2/; s/^KK RIV/KK 01/' >numbers.hc1
+try 'a name that looks like the number of another' 0 "$(sheet_of 1.00 2)" '' "$hec1" --sheet 2 numbers.hc1
+try 'a number with a zero that is no name' 2 '' 'hec1: numbers.hc1: block 2 is a routing; only a runoff block has a sheet\n' "$hec1" --sheet 02 numbers.hc1
+try 'a name with a zero that looks like the number of another' 2 '' 'hec1: numbers.hc1: block 2 is a routing; only a runoff block has a sheet\n' "$hec1" --sheet 01 numbers.hc1
+try 'the number of another name' 0 "$(sheet_of 1.00 2)" '' "$hec1" --sheet 1 numbers.hc1
+for odd in -- - --help RATIO END sum 1e0 0x1 a\'b '"q"' '$x' '%s' '*' '[A]' '\n' 'A\' '&' '.'; do
+    printf '%b' "$basin" | NAME=$odd awk '$0 == "KK UP" { print "KK " ENVIRON["NAME"]; next } { print }' >odd.hc1
+    try "a block called $odd" 0 "$(sheet_of 1.00 "$(printf '%s' "$odd" | sed 's/\\/\\\\/g')")" '' "$hec1" --sheet "$odd" odd.hc1
+done
+printf '%b' "$basin" | sed 's/^KK UP/*FIX\nKK A,,B\n*FREE/' >odd.hc1
+try 'a name with commas' 0 "$(sheet_of 1.00 A,,B)" '' "$hec1" --sheet A,,B odd.hc1
+
+# what is refused or cannot be read, and the words
+input "$bad"
+try 'no sheet of a refused deck' 1 "$bad_list" "-$bad_words" "$hec1" --sheet A
+input ''
+try 'no sheet of a deck without ZZ' 1 'REFUSED 16 0\n' "open.hc1$open_words" "$hec1" --sheet 1 open.hc1
+try 'no sheet of a long deck' 1 'REFUSED 2 0\n' 'long.hc1: deck over 60,000 bytes (refusal 2)\n' "$hec1" --sheet 1 long.hc1
+{ printf '%b' "$basin"; head -c $((60000 - $(printf '%b' "$basin" | wc -c))) /dev/zero; } >longest.hc1
+try 'a sheet of a deck of 60,000 bytes' 0 "$up" '' "$hec1" --sheet UP longest.hc1
+try 'no sheet of a missing file' 2 '' 'hec1: none.hc1: no such file\n' "$hec1" --sheet UP none.hc1
+try 'no sheet of a folder' 2 '' 'hec1: .: is a folder\n' "$hec1" --sheet UP .
+try 'sheets of two files' 2 '' 'hec1: --sheet takes one file\n' "$hec1" --sheet UP basin.hc1 basin.hc1
+try 'no block named' 2 '' 'hec1: --sheet wants a block, its name or its number\n' "$hec1" --sheet
+try 'a ratio before the block' 2 '' 'hec1: --sheet wants a block, its name or its number\n' "$hec1" --sheet --ratio 1 UP basin.hc1
+for word in '' x 1.5 -1 '1 2'; do
+    try "the ratio '$word'" 2 '' 'hec1: --ratio wants the place of a ratio on JR, a number from 1\n' "$hec1" --sheet UP --ratio "$word" basin.hc1
+done
+try 'a ratio without a place' 2 '' 'hec1: --ratio wants the place of a ratio on JR, a number from 1\n' "$hec1" --sheet UP --ratio
+input "$basin"
+with 'a full device, a sheet' 2 'hec1: standard output: cannot be written to\n' '"$hec1" --sheet UP >/dev/full'
+with 'no standard input, a sheet' 2 'hec1: standard input: cannot be read\n' '"$hec1" --sheet UP <&-'
+
+# programs that list decks and make no sheets
+for answer in 'exit 3' 'echo NO SHEET 1; echo --' 'echo REFUSED 17 0; echo --' 'exit 0'; do
+    printf '#!/bin/sh\nif [ "${1:-}" != --sheet ]; then exec "%s"; fi\ncat >/dev/null\n%s\n' "$second" "$answer" >"$scratch/broken"
+    ended=0
+    if [ "$answer" = 'exit 3' ]; then ended=3; fi
+    try "a program that says: $answer" 2 '' "hec1: -: the program ended with status $ended and gave no sheet\n" "$root/hec1" --program "$scratch/broken" --sheet UP
+done
+printf '#!/bin/sh\nif [ "${1:-}" != --sheet ]; then exec "%s"; fi\ncat >/dev/null\necho OUTPUT FAILED >&2\n' "$second" >"$scratch/broken"
+try 'a program that cannot write' 2 '' 'hec1: -: the output cannot be written\n' "$root/hec1" --program "$scratch/broken" --sheet UP
+
+# case_file BLOCK RATIO DECK: a case as the program sheet reads it
+case_file() {
+    length=$(printf '%b' "$3" | wc -c)
+    printf '%b' "\\0$(printf %o "$1")\\0000\\0000\\0000\\0$(printf %o "$2")\\0000\\0000\\0000\\0$(printf %o "$length")\\0000\\0000\\0000$3"
+}
+if [ -n "$proved" ]; then
+    case_file 1 0 "$basin" >"$scratch/case"
+    head -c 40 "$scratch/case" >"$scratch/cut"
+    head -c 9 "$scratch/case" >"$scratch/shorter"
+    with 'sheet: a folder as standard input' 0 'INPUT FAILED\n' "$by_hand $made/sheet <."
+    holds 'sheet: a folder as standard input: no sheet' test ! -s "$scratch/out"
+    with 'sheet: a full device' 0 'OUTPUT FAILED\n' "$by_hand $made/sheet <'$scratch/case' >/dev/full"
+    with 'sheet: a case that ends inside its deck' 0 'INPUT CUT\n' "$by_hand $made/sheet <'$scratch/cut'"
+    with 'sheet: a case that ends inside a number' 0 'INPUT CUT\n' "$by_hand $made/sheet <'$scratch/shorter'"
+    with 'sheet: a case' 0 '' "$by_hand $made/sheet <'$scratch/case'"
+    printf '%b--\n' "$up" >"$scratch/expected"
+    same 'sheet: a case: its text' "$scratch/expected" "$scratch/out"
+fi
+
+# every runoff block of every example under every ratio: the sheet is the one that the second program writes
+find "$root/examples" -name '*.hc1' | sort >"$scratch/examples"
+while IFS= read -r deck; do
+    number=0
+    ratios=$("$second" <"$deck" | grep -c '^RATIO ')
+    if [ "$ratios" = 0 ]; then ratios=1; fi
+    "$second" <"$deck" | awk 'NF == 6 { print $2 }' | head -n $(($("$second" <"$deck" | sed -n 's/^END //p'))) >"$scratch/kinds"
+    while read -r kind; do
+        number=$((number + 1))
+        if [ "$kind" != 1 ]; then continue; fi
+        for place in $(numbers 1 "$ratios"); do
+            { printf '%b' "\\0$(printf %o "$number")\\0000\\0000\\0000\\0$(printf %o "$place")\\0000\\0000\\0000"
+              size=$(wc -c <"$deck")
+              printf '%b' "\\0$(printf %o $((size % 256)))\\0$(printf %o $((size / 256)))\\0000\\0000"
+              cat "$deck"; } | "$second" --sheet | grep -v -x -e -- >"$scratch/expected"
+            "$hec1" --sheet "$number" --ratio "$place" "$deck" >"$scratch/got" 2>"$scratch/err"
+            same "the sheet of ${deck#"$root/"}, block $number, ratio $place" "$scratch/expected" "$scratch/got"
+        done
+    done <"$scratch/kinds"
+done <"$scratch/examples"
+
 # every example: its records are those that the second program has, and they move back only without other ratios
 find "$root/examples" -name '*.hc1' | sort >"$scratch/examples"
 while IFS= read -r deck; do
@@ -418,6 +568,13 @@ while IFS= read -r deck; do
     "$hec1" "$deck" >"$scratch/got" 2>"$scratch/err" </dev/null
     same "$deck" "${deck%.hc1}.listing" "$scratch/got"
 done <"$scratch/examples"
+# a sheet says itself whose it is
+find examples -name '*.sheet' | sort >"$scratch/sheets"
+holds 'there is a sheet' test -s "$scratch/sheets"
+while IFS= read -r sheet; do
+    "$hec1" --sheet "$(sed -n '1s/^units,[0-9.]*,//p' "$sheet")" "${sheet%.sheet}.hc1" >"$scratch/got" 2>"$scratch/err" </dev/null
+    same "$sheet" "$sheet" "$scratch/got"
+done <"$scratch/sheets"
 
 # the five storms in one run are the five decks' listings joined, each behind its ratio, with the block count once
 cat examples/nine-acre-pond/storm-?.listing | grep -v '^END ' >"$scratch/expected"
@@ -444,7 +601,7 @@ if [ -f fault ]; then
     exit 1
 fi
 mkdir -p target/bin
-case $2 in bundle) option=--bundle ;; *) option= ;; esac
+case $2 in bundle | sheet) option=--$2 ;; *) option= ;; esac
 printf '#!/bin/sh\nexec "%s" %s\n' "$SECOND" "$option" >"target/bin/$2"
 chmod +x "target/bin/$2"
 END
@@ -493,13 +650,17 @@ holds 'the next build: runs' runs 5
 printf '%b--\n' "$good_list" >"$scratch/expected"
 same 'the program for bundles is built too' "$scratch/expected" "$scratch/got"
 holds 'the program for bundles: by its name' test "$(tail -n 1 "$RUNS")" = 'check bundle'
+"$hec1" --sheet UP basin.hc1 >"$scratch/got" 2>/dev/null
+printf '%b' "$up" >"$scratch/expected"
+same 'the program for sheets is built too' "$scratch/expected" "$scratch/got"
+holds 'the program for sheets: by its name' test "$(tail -n 1 "$RUNS")" = 'check sheet'
 if command -v flock >/dev/null 2>&1; then
     rm -r "$repository/target"
     for one in 1 2 3; do "$hec1" good.hc1 >"$scratch/got$one" 2>/dev/null & done
     wait
     printf '%b' "$good_list" >"$scratch/expected"
     for one in 1 2 3; do same "three first uses at once: $one" "$scratch/expected" "$scratch/got$one"; done
-    holds 'three first uses at once: one build' runs 7
+    holds 'three first uses at once: one build' runs 8
 fi
 mkdir "$scratch/nothing"
 for tool in sh awk sed cat env find head tail tr mktemp rm readlink dirname uname grep date cp mv touch mkdir wc; do
