@@ -344,8 +344,8 @@ try 'sheets under all ratios' 0 "$(sheet_of 1.50 UP)$up$(sheet_of 0.50 UP)" '' "
 try 'the first ratio' 0 "$(sheet_of 1.50 UP)" '' "$hec1" --sheet UP --ratio 1 three.hc1
 try 'the second ratio' 0 "$up" '' "$hec1" --sheet 1 --ratio 2 three.hc1
 try 'the last ratio' 0 "$(sheet_of 0.50 UP)" '' "$hec1" --sheet UP --ratio 003 three.hc1
-for place in 0 4 10 33 99999999999999999999; do
-    try "no ratio $place" 2 '' "hec1: three.hc1: there is no ratio $place; the deck has 3 ratios\n" "$hec1" --sheet UP --ratio "$place" three.hc1
+for ratio in 0 4 10 33 99999999999999999999; do
+    try "no ratio $ratio" 2 '' "hec1: three.hc1: there is no ratio $ratio; the deck has 3 ratios\n" "$hec1" --sheet UP --ratio "$ratio" three.hc1
 done
 try 'no second ratio' 2 '' 'hec1: basin.hc1: there is no ratio 2; the deck has 1 ratio\n' "$hec1" --sheet UP --ratio 2 basin.hc1
 printf '%b' "$basin" | sed 's/^IT.*/&\nJR PREC,1.5/' >one.hc1
@@ -442,13 +442,13 @@ while IFS= read -r deck; do
     while read -r kind; do
         number=$((number + 1))
         if [ "$kind" != 1 ]; then continue; fi
-        for place in $(numbers 1 "$ratios"); do
-            { printf '%b' "\\0$(printf %o "$number")\\0000\\0000\\0000\\0$(printf %o "$place")\\0000\\0000\\0000"
+        for ratio in $(numbers 1 "$ratios"); do
+            { printf '%b' "\\0$(printf %o "$number")\\0000\\0000\\0000\\0$(printf %o "$ratio")\\0000\\0000\\0000"
               size=$(wc -c <"$deck")
               printf '%b' "\\0$(printf %o $((size % 256)))\\0$(printf %o $((size / 256)))\\0000\\0000"
               cat "$deck"; } | "$second" --sheet | grep -v -x -e -- >"$scratch/expected"
-            "$hec1" --sheet "$number" --ratio "$place" "$deck" >"$scratch/got" 2>"$scratch/err"
-            same "the sheet of ${deck#"$root/"}, block $number, ratio $place" "$scratch/expected" "$scratch/got"
+            "$hec1" --sheet "$number" --ratio "$ratio" "$deck" >"$scratch/got" 2>"$scratch/err"
+            same "the sheet of ${deck#"$root/"}, block $number, ratio $ratio" "$scratch/expected" "$scratch/got"
         done
     done <"$scratch/kinds"
 done <"$scratch/examples"

@@ -1,16 +1,17 @@
 #!/bin/sh
-# compare.sh [--program PROGRAM] [SEED [BUNDLE [CASES [PAIRS [MOVES]]]]]
+# compare.sh [--program PROGRAM] [SEED [BUNDLE [CASES [PAIRS [MOVES [SHEETS]]]]]]
 # Runs the proved programs and the second program on the same decks and compares what they print, byte by byte.
-# By default 20,000 decks of all sorts, 2,000 cases with rooms of all sizes, 4,000 files of records to move, 2,000 pairs
-# of decks that draw one network (which must also answer as such), and a few decks, one at a time, on both sides of
-# 60,000 bytes, one of them with the most blocks and ratios that there can be.
+# By default 20,000 decks of all sorts, 2,000 cases with rooms of all sizes, 4,000 files of records to move, 2,000 decks
+# with a block and a ratio to make a sheet of, 2,000 pairs of decks that draw one network (which must also answer as
+# such), and a few decks, one at a time, on both sides of 60,000 bytes, one of them with the most blocks and ratios that
+# there can be.
 # Fails too when a refusal is missing: one that depends on rooms in the cases, any other in the bundle, one of the mover
-# in the moves.
-# The last line is 'N passed, M failed', where each deck, case, file and pair counts as one; the exit status agrees
-# with it.
+# in the moves, any but that of short work words in the sheets.
+# The last line is 'N passed, M failed', where each deck, case, file, sheet and pair counts as one; the exit status
+# agrees with it.
 #
-# --program, to try this script itself: a program to start in place of the proved ones (with --bundle, --cases or
-# --mover).
+# --program, to try this script itself: a program to start in place of the proved ones (with --bundle, --cases, --mover
+# or --sheet).
 set -u
 root=$(CDPATH="" cd -- "$(dirname -- "$0")/.." && pwd -P) || exit 2
 . "$root/second/kit.sh" || exit 2
@@ -24,6 +25,7 @@ bundle=${2:-20000}
 cases=${3:-2000}
 pairs=${4:-2000}
 moves=${5:-4000}
+sheets=${6:-2000}
 second=$root/target/second/hec1
 decks=$root/target/second/decks
 work=$(mktemp -d) || exit 2
@@ -44,7 +46,7 @@ sh "$root/second/build-decks.sh" || die "the deck writer was not built"
 
 if [ -z "$program" ]; then
     find_kit || die "$no_kit"
-    (cd "$root" && "$rt" check hec1 bundle rooms mover) >"$work/log" 2>&1 ||
+    (cd "$root" && "$rt" check hec1 bundle rooms mover sheet) >"$work/log" 2>&1 ||
         { tail -n 5 "$work/log" >&2; die "the programs were not proved and built"; }
 fi
 
@@ -57,6 +59,7 @@ proved() {
         bundle) "$program" --bundle ;;
         rooms) "$program" --cases ;;
         mover) "$program" --mover ;;
+        sheet) "$program" --sheet ;;
         *) "$program" ;;
         esac
     fi
@@ -115,7 +118,7 @@ both() {
     "$second" ${2:+"$2"} <"$work/decks" >"$work/second" || failed=$((failed + 1))
 }
 
-# ---- bundle, cases, moves, pairs
+# ---- bundle, cases, moves, sheets, pairs
 
 "$decks" bundle "$seed" "$bundle" >"$work/decks" || die "the deck writer failed"
 both bundle --bundle
@@ -128,6 +131,10 @@ compare cases "$cases" "$room_refusals"
 "$decks" moves "$seed" "$moves" >"$work/decks" || die "the deck writer failed"
 both mover --mover
 compare moves "$moves" "$mover_refusals"
+
+"$decks" sheets "$seed" "$sheets" >"$work/decks" || die "the deck writer failed"
+both sheet --sheet
+compare sheets "$sheets" "$(sheet_refusals)"
 
 "$decks" pairs "$seed" "$pairs" >"$work/decks" || die "the deck writer failed"
 both bundle --bundle
