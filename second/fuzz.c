@@ -1,15 +1,17 @@
 /* Fuzz driver of the self-test: runs thousands of mutated decks under the
  * sanitizers, from a fixed seed.  No outcome is known beforehand; what is
  * tested is what must hold for any deck (document 01, 'What comes back', and
- * document 02, CR 3 and CR 4):
+ * document 02, CR 3 to CR 5):
  * outcomes do not depend on what the lent room held or on room to spare,
  * refusals leave zeros, too little room is refused only where nothing else
  * is, records agree with ordinates and say their ratio, they move to the old
- * form and back just where no other ratio than 1.00 is among them, and some
- * changes to a deck change nothing or only the line.  Prints one line and ends
- * with status 0, or says what broke, shows the deck and ends with status 1. */
+ * form and back just where no other ratio than 1.00 is among them, the sheet of
+ * a runoff block adds up to its ordinates, and some changes to a deck change
+ * nothing or only the line.  Prints two lines and ends with status 0, or says
+ * what broke, shows the deck and ends with status 1. */
 #include "engine.h"
 #include "mover.h"
+#include "sheet.h"
 
 #include <stdbool.h>
 #include <stdio.h>
@@ -379,6 +381,41 @@ static void expect(struct named named, size_t work, size_t ordinates,
 /* The last block and the last ratio. */
 static const struct named last = { 0, 0 };
 
+static unsigned long sheets;
+
+/* The sheet of a runoff block, which must add up.  It reads the deck by itself,
+ * here one that ends where it is said to. */
+static void check_sheet(const struct outcome *o, unsigned block,
+                        unsigned ratio)
+{
+    static struct sheet sheet;
+    static char text[SHEET_ROOM];
+    uint8_t *copy;
+    size_t length;
+
+    copy = take(deck_length, 0);
+    memcpy(copy, deck, deck_length);
+    make_sheet(copy, deck_length, block, o->answer.ratios.value[ratio - 1],
+               &sheet);
+    free(copy);
+    if (sheet.nq != o->answer.nq || !sums_are(&sheet, o->room.ordinates))
+        broken("a sheet does not add up to the ordinates");
+    for (unsigned k = 0; k < sheet.nq; k++)
+        if (sheet.rain[k] != sheet.loss[k] + sheet.excess[k])
+            broken("rain is not loss and excess");
+    length = write_sheet(&sheet, text);
+    if (length > SHEET_ROOM || text[length - 1] != '\n')
+        broken("a sheet has no end");
+    sheets++;
+}
+
+static bool is_runoff(const struct outcome *o, unsigned block, unsigned ratio)
+{
+    size_t record = (size_t)(ratio - 1) * o->answer.blocks + block - 1;
+
+    return o->room.records[record * RECORD_BYTES + RECORD_KIND] == SHEET_KIND;
+}
+
 /* Blocks by name, under each ratio. */
 static void check_named(const struct outcome *base, unsigned ratio)
 {
@@ -390,13 +427,16 @@ static void check_named(const struct outcome *base, unsigned ratio)
         struct named named = { k, ratio };
         struct outcome o = run(deck, deck_length, named, WORK_WORDS, nq, bytes,
                                7);
+        unsigned block = k == 0 ? blocks : k;
+        unsigned place = ratio == 0 ? base->answer.ratios.count : ratio;
         if (!same_answer(o.answer, base->answer))
             broken("the named block changes the answer");
         check_zeros(&o);
-        check_record(&o, k == 0 ? blocks : k,
-                     ratio == 0 ? base->answer.ratios.count : ratio);
+        check_record(&o, block, place);
         if (memcmp(o.room.records, base->room.records, bytes) != 0)
             broken("the named block changes records");
+        if (is_runoff(&o, block, place))
+            check_sheet(&o, block, place);
         drop(&o);
     }
 }
@@ -513,6 +553,6 @@ int main(void)
     for (unsigned k = 1; k <= LAST_REFUSAL; k++)
         if (count[k] > 0)
             printf(" %u:%u", k, count[k]);
-    putchar('\n');
+    printf("\nfuzz: %lu sheets, all of which add up\n", sheets);
     return 0;
 }

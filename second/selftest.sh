@@ -1,7 +1,7 @@
 #!/usr/bin/env bash
 # Self-test of the second program.  Builds it and the fuzz driver with the
 # address and undefined-behaviour sanitizers, runs small decks against outcomes
-# worked out by hand from document 01 and document 02, CR 1 to CR 4, then the
+# worked out by hand from document 01 and document 02, CR 1 to CR 5, then the
 # fuzz.  The last line counts.
 #
 # Decks and expected texts are written with printf's escapes (\n, \r, \xHH).
@@ -13,6 +13,7 @@ fuzz=$out/fuzz-checked
 losses=$out/losses-checked
 ratios=$out/ratios-checked
 moves=$out/moves-checked
+sheets=$out/sheets-checked
 decks=$out/decks-checked
 mkdir -p "$out"
 scratch=$(mktemp -d) || exit 1
@@ -29,11 +30,12 @@ cd "$here" || exit 1
 . ./kit.sh || exit 1
 # shellcheck disable=SC2086,SC2154
 build "$prog" $sources
-build "$fuzz" fuzz.c engine.c cards.c mover.c
+build "$fuzz" fuzz.c engine.c cards.c mover.c sheet.c
 build "$losses" losses.c cards.c bundle.c
 build "$ratios" ratios.c cards.c bundle.c
 build "$moves" moves.c mover.c bundle.c
-build "$decks" decks.c decks_net.c decks_write.c decks_damage.c decks_moves.c
+build "$sheets" sheets.c cards.c bundle.c
+build "$decks" decks.c decks_net.c decks_write.c decks_damage.c decks_moves.c decks_sheets.c
 
 # Nothing is looked for that was not freed: each run ends at once, and on some
 # machines the search takes seconds a run.
@@ -1766,6 +1768,135 @@ limit "$is_new" 1600001 'REFUSED 0|'
 limit "$is_new" 1600040 'REFUSED 0|'
 limit "$is_deck" 1600001 'REFUSED 2 0|'
 limit "$(le4 7)" 1600001 'INPUT CUT|'
+
+# ---- The sheet ---------------------------------------------------------------
+
+sheet_of() { # block, ratio, deck
+    printf '%s%s%s' "$(le4 "$1")" "$(le4 "$2")" "$(sized "$3")"
+}
+# sheet TEXT DECK [BLOCK [RATIO]]: what is printed of a case, the last block and
+# ratio by default
+sheet() { bundle --sheet "$1--\n" "$ok" "$(sheet_of "${3:-0}" "${4:-0}" "$2")"; }
+# tables RATIO NAME NQ UNITS FIGURES: a sheet with these lines behind each head
+tables() {
+    local head
+    head="interval,rain,loss,excess,$(seq -s, 1 "$3")\n"
+    printf '%s' "units,$1,$2\n$head$4inches and cfs,$1,$2\n$head$5"
+}
+# runoff MINUTES NQ LU PI UI: a deck of one block
+runoff() { printf '*FREE\\nIT %s,,,%s\\nKK A\\nBA 1\\nLU %s\\nPI %s\\nUI %s\\nZZ\\n' "$1" "$2" "$3" "$4" "$5"; }
+
+# the deck of document 01: 0.50 fills the initial loss, 0.30 leaves 0.20
+up_sheet=$(tables 1.00 UP 4 '2,180000,60000,120000,,120000000,48000000,\nsum,,,,0,120000000,48000000,0\n' \
+    '2,0.300000,0.100000,0.200000,,2.000000,0.800000,\nsum,,,,0.000000,2.000000,0.800000,0.000000\n')
+sheet "$up_sheet" "$pond" 1
+sheet "$up_sheet" "$pond" 1 1
+sheet "$up_sheet" "${pond%'\n'}" 1
+sheet "$up_sheet" "${pond//'\n'/'\r\n'}" 1
+sheet "$up_sheet" "${pond//'\n'/'\nKM PI 1\n   \n'}" 1
+sheet 'NO SHEET 4\n' "$pond" 2
+sheet 'NO SHEET 2\n' "$pond" 3
+sheet 'NO SHEET 3\n' "$pond" 4
+sheet 'NO SHEET 3\n' "$pond"
+# what there is not is told last of all
+for text in '5 0' '1 2' '5 2' '0 2' '2 2' '4294967295 0' '1 4294967295' '256 0' '65536 65536'; do
+    sheet 'REFUSED 17 0\n' "$pond" ${text% *} ${text#* }
+    sheet 'REFUSED 10 15\n' "${pond/HC 2/HC 3}" ${text% *} ${text#* }
+done
+sheet 'REFUSED 16 0\n' '' 9 9
+sheet 'REFUSED 2 0\n' "$small$(pad 60001)" 9 9
+sheet 'NO SHEET 2\n' "$small$(pad 60000)" 1 1
+
+# one ordinate; no rain; rain and no unit ordinate; unit ordinates of 0, and more
+# of them than ordinates; the last interval; excess in two that meet
+sheet "$(tables 1.00 A 1 '1,600000,0,600000,180000000\nsum,,,,180000000\n' '1,1.000000,0.000000,1.000000,3.000000\nsum,,,,3.000000\n')" \
+    "$(runoff 60 1 0 1 3,5)"
+sheet "$(tables 1.00 A 2 'sum,,,,0,0\n' 'sum,,,,0.000000,0.000000\n')" "$(runoff 60 2 0 '' 3,5)"
+sheet "$(tables 1.00 A 2 'sum,,,,0,0\n' 'sum,,,,0.000000,0.000000\n')" "$(runoff 60 2 1 0.5,0.5 3,5)"
+sheet "$(tables 1.00 A 2 'sum,,,,0,0\n' 'sum,,,,0.000000,0.000000\n')" "$(runoff 60 2 0,1 1,.9999 3,5)"
+sheet "$(tables 1.00 A 2 '1,600000,0,600000,,\n2,60,0,60,,\nsum,,,,0,0\n' \
+    '1,1.000000,0.000000,1.000000,,\n2,0.000100,0.000000,0.000100,,\nsum,,,,0.000000,0.000000\n')" "$(runoff 60 2 0 1,.0001 '')"
+sheet "$(tables 1.00 A 6 '2,600000,0,600000,,0,120000000,0,0,\nsum,,,,0,0,120000000,0,0,0\n' \
+    '2,1.000000,0.000000,1.000000,,0.000000,2.000000,0.000000,0.000000,\nsum,,,,0.000000,0.000000,2.000000,0.000000,0.000000,0.000000\n')" \
+    "$(runoff 60 6 0 ,1 0,2,,0)"
+sheet "$(tables 1.00 A 3 '3,1200000,600000,600000,,,60000000\nsum,,,,0,0,60000000\n' \
+    '3,2.000000,1.000000,1.000000,,,1.000000\nsum,,,,0.000000,0.000000,1.000000\n')" "$(runoff 60 3 ,1 1,.5,2 1,2,3,4)"
+sheet "$(tables 1.00 A 4 '1,600000,0,600000,60000000,120000000,180000000,\n3,1200000,0,1200000,,,120000000,240000000\nsum,,,,60000000,120000000,300000000,240000000\n' \
+    '1,1.000000,0.000000,1.000000,1.000000,2.000000,3.000000,\n3,2.000000,0.000000,2.000000,,,2.000000,4.000000\nsum,,,,1.000000,2.000000,5.000000,4.000000\n')" \
+    "$(runoff 60 4 0 1,,2 1,2,3)"
+sheet "$(tables 1.00 A 2 '2,1200000,0,1200000,,6000000000000\nsum,,,,0,6000000000000\n' \
+    '2,2.000000,0.000000,2.000000,,100000.000000\nsum,,,,0.000000,100000.000000\n')" "$(runoff 60 2 0 0,2 50000)"
+sheet 'REFUSED 13 8\n' "$(runoff 60 2 0 0,2 50000.01)"
+
+# the sixth place.  A loss of 59 units leaves one of 60: 60 units are 100
+# millionths of an inch, 59 are 98 1/3 and one is 1 2/3; 29 flow units are less
+# than half a millionth of a cfs, 30 are a half and 31 more.
+sheet "$(tables 1.00 A 4 '1,60,59,1,29,30,31,\nsum,,,,29,30,31,0\n' \
+    '1,0.000100,0.000098,0.000002,0.000000,0.000001,0.000001,\nsum,,,,0.000000,0.000001,0.000001,0.000000\n')" "$(runoff 1 4 ,.0059 .0001 .29,.3,.31)"
+sheet "$(tables 1.00 A 4 '1,60,59,1,89,90,91,\nsum,,,,89,90,91,0\n' \
+    '1,0.000100,0.000098,0.000002,0.000001,0.000002,0.000002,\nsum,,,,0.000001,0.000002,0.000002,0.000000\n')" "$(runoff 1 4 ,.0059 .0001 .89,.9,.91)"
+# two shares of a quarter are a half, whatever each shows
+sheet "$(tables 1.00 A 3 '1,60,59,1,15,15,\n2,60,59,1,,15,15\nsum,,,,15,30,15\n' \
+    '1,0.000100,0.000098,0.000002,0.000000,0.000000,\n2,0.000100,0.000098,0.000002,,0.000000,0.000000\nsum,,,,0.000000,0.000001,0.000000\n')" \
+    "$(runoff 1 3 ,.0059 .0001,.0001 .15,.15)"
+# two of 31 units each show a millionth, their sum of 62 one as well
+sheet "$(tables 1.00 A 2 '1,60,59,1,31,31\n2,60,59,1,,31\nsum,,,,31,62\n' \
+    '1,0.000100,0.000098,0.000002,0.000001,0.000001\n2,0.000100,0.000098,0.000002,,0.000001\nsum,,,,0.000001,0.000001\n')" \
+    "$(runoff 1 2 ,.0059 .0001,.0001 .31,.31)"
+
+# ratios: rain, losses and excess are those of the named one, and so is the title
+jr_runoff="${free}JR PREC,1.5,1,.33\nKK A\nBA 1\nPI .5,.3,.1\nLU .5,.1\nUI 10,4\nZZ\n"
+half_more=$(tables 1.50 A 4 '1,450000,360000,90000,90000000,36000000,,\n2,270000,60000,210000,,210000000,84000000,\n3,90000,60000,30000,,,30000000,12000000\nsum,,,,90000000,246000000,114000000,12000000\n' \
+    '1,0.750000,0.600000,0.150000,1.500000,0.600000,,\n2,0.450000,0.100000,0.350000,,3.500000,1.400000,\n3,0.150000,0.100000,0.050000,,,0.500000,0.200000\nsum,,,,1.500000,4.100000,1.900000,0.200000\n')
+third=$(tables 0.33 A 4 'sum,,,,0,0,0,0\n' 'sum,,,,0.000000,0.000000,0.000000,0.000000\n')
+sheet "$half_more" "$jr_runoff" 1 1
+sheet "${up_sheet//,UP/,A}" "$jr_runoff" 1 2
+sheet "${up_sheet//,UP/,A}" "$jr_runoff" 0 2
+sheet "$third" "$jr_runoff" 1 3
+sheet "$third" "$jr_runoff" 0 0
+sheet 'REFUSED 17 0\n' "$jr_runoff" 1 4
+# 60 units an interval: floor(.33 times 60, 120 and 180) is 19, 39 and 59
+sheet "$(tables 0.33 A 3 '1,19,0,19,1900,0,\n2,20,0,20,,2000,0\n3,20,0,20,,,2000\nsum,,,,1900,2000,2000\n' \
+    '1,0.000032,0.000000,0.000032,0.000032,0.000000,\n2,0.000033,0.000000,0.000033,,0.000033,0.000000\n3,0.000033,0.000000,0.000033,,,0.000033\nsum,,,,0.000032,0.000033,0.000033\n')" \
+    '*FREE\nIT 60,,,3\nJR PREC,.33\nKK A\nBA 1\nPI .0001,.0001,.0001\nLU\nUI 1,0\nZZ\n'
+# a total of 60 units in sevenths: 8, 9, 8, 9, 8, 9, 9; of these ratio 0.50 makes
+# 4, 4, 4, 5, 4, 4, 5
+sheet "$(tables 1.00 A 7 '1,8,0,8,8,,,,,,\n2,9,0,9,,9,,,,,\n3,8,0,8,,,8,,,,\n4,9,0,9,,,,9,,,\n5,8,0,8,,,,,8,,\n6,9,0,9,,,,,,9,\n7,9,0,9,,,,,,,9\nsum,,,,8,9,8,9,8,9,9\n' \
+    '1,0.000013,0.000000,0.000013,0.000000,,,,,,\n2,0.000015,0.000000,0.000015,,0.000000,,,,,\n3,0.000013,0.000000,0.000013,,,0.000000,,,,\n4,0.000015,0.000000,0.000015,,,,0.000000,,,\n5,0.000013,0.000000,0.000013,,,,,0.000000,,\n6,0.000015,0.000000,0.000015,,,,,,0.000000,\n7,0.000015,0.000000,0.000015,,,,,,,0.000000\nsum,,,,0.000000,0.000000,0.000000,0.000000,0.000000,0.000000,0.000000\n')" \
+    '*FREE\nIT 60,,,7\nKK A\nBA 1\nPB .0001\nPI 1,1,1,1,1,1,1\nLU\nUI .01\nZZ\n'
+sheet "$(tables 0.50 A 7 '4,5,4,1,,,,1,,,\n7,5,4,1,,,,,,,1\nsum,,,,0,0,0,1,0,0,1\n' \
+    '4,0.000008,0.000007,0.000002,,,,0.000000,,,\n7,0.000008,0.000007,0.000002,,,,,,,0.000000\nsum,,,,0.000000,0.000000,0.000000,0.000000,0.000000,0.000000,0.000000\n')" \
+    '*FREE\nIT 1,,,7\nJR PREC,.5\nKK A\nBA 1\nPB .0001\nPI 1,1,1,1,1,1,1\nLU ,.0004\nUI .01\nZZ\n'
+# no total, and no pattern
+sheet "$(tables 1.00 A 2 'sum,,,,0,0\n' 'sum,,,,0.000000,0.000000\n')" '*FREE\nIT 60,,,2\nKK A\nBA 1\nPB\nPI 0\nLU\nUI 1\nZZ\n'
+
+# how the cards are read: both forms, lists on several lines and among each other,
+# blanks in them, and nothing from the blocks before
+both_forms='IT    15  600000   X 1 2       4\nKK,,A,  TEXT\nBA     1\nPI    .5      .3\n*FREE\nUI 10\nPI .1\nKM *FIX\nUI\nUI ,\nUI 4\nLU .5,.4\n'
+sheet "${up_sheet//,UP/,,,A,}" "${both_forms}ZZ\nKK B\nPI 3\n\x01"
+sheet "${up_sheet//,UP/,,,A,}" "${both_forms}KK B\nPI 9,9,9,9\nPB 1\nUI 7,7,7\nLU 1,1\nBA 1\nKK C\nHC 2\nZZ\n" 1
+sheet "$(tables 1.00 B 4 '2,600000,0,600000,,60000000,0,60000000\nsum,,,,0,60000000,0,60000000\n' \
+    '2,1.000000,0.000000,1.000000,,1.000000,0.000000,1.000000\nsum,,,,0.000000,1.000000,0.000000,1.000000\n')" \
+    "${both_forms}KK B\nPI ,1\n*FIX\nLU\nBA   1.5\nUI     1               1\nKK C\n*FREE\nHC 2\nZZ\n" 2
+
+# several cases, and where they end
+bundle --sheet '' "$ok" ''
+bundle --sheet "$up_sheet--\nREFUSED 2 0\n--\nNO SHEET 3\n--\nREFUSED 16 0\n--\n$third--\n" "$ok" \
+    "$(sheet_of 1 0 "$pond")$(sheet_of 1 1 "$long")$(sheet_of 4 1 "$pond")$(sheet_of 0 0 '')$(sheet_of 0 3 "$jr_runoff")"
+for rest in '\x01' "$(le4 1)" "$(le4 1)$(le4 0)" "$(le4 1)$(le4 0)\x01\x00\x00" "$(le4 1)$(le4 0)$(le4 3)ZZ" "$(le4 1)$(le4 0)$(le4 100000)$long"; do
+    bundle --sheet "$up_sheet--\n" '2, said' "$(sheet_of 1 0 "$pond")$rest"
+done
+check 'two modes, one of them the sheet' 'status 2, said' "$(run --sheet --mover </dev/null)"
+
+# An engine that writes a share where it is to add it: the sheet does not add up,
+# and the program says so.  Where no two shares meet there is nothing to say.
+sed 's/flow\[i + j\] +=/flow[i + j] =/' engine.c >"$scratch/engine.c"
+cmp -s engine.c "$scratch/engine.c"
+check 'an engine is spoilt' 1 $?
+spoilt=$scratch/spoilt
+"${CC:-gcc}" -std=c11 -I. -o "$spoilt" "$scratch/engine.c" main.c cards.c mover.c sheet.c || exit 1
+got=$(printf '%b' "$(sheet_of 1 0 "$pond")$(sheet_of 1 1 "$jr_runoff")$(sheet_of 1 0 "$pond")" | "$spoilt" --sheet 2>&1; echo "status $?")
+check 'a sheet that does not add up' "$(printf '%b' "$up_sheet--\nhec1: the sums of a sheet are not the ordinates of its block\nstatus 2")" "$got"
 
 # ---- The counters ----------------------------------------------------------
 
