@@ -1985,6 +1985,52 @@ check 'moves: the same seed begins alike' 0 $?
 "$decks" moves 3 200 | cmp -s - "$scratch/fewer"
 check 'moves: another seed does not' 1 $?
 
+# The counter of sheets.  UP of document 01, in row 2 alone; no sheet; a block
+# one above the count; rows 1 to 3 under the first of three ratios; the flows at
+# and about a half; and far above every count in a deck that is refused with 10.
+known=$(sheet_of 1 0 "$pond")$(sheet_of 0 0 "$pond")$(sheet_of 5 0 "$pond")$(sheet_of 1 1 "$jr_runoff")
+known+=$(sheet_of 0 0 "$(runoff 1 4 ,.0059 .0001 .29,.3,.31)")$(sheet_of 1000 0 "${pond/HC 2/HC 3}")
+# all, sheets, kinds 2 to 4, refused by 2 to 18
+expected='6,3,0,1,0,0,0,0,0,0,0,0,0,1,0,0,0,0,0,0,1,0,'
+# block 0, with a sheet, the last by its number; ratio 0 of several, without JR,
+# ratio 1 without JR; block, ratio or both one above, ratio 2 without JR, far
+# above, in a refused deck; ratios 1 to 9
+expected+='2,1,1,0,2,0,1,0,0,0,0,1,1,0,0,0,0,0,0,0,0,'
+# plain, PB, JR, both; no excess, but rain; first, last, last alone; dry and lost
+# between; three in a column; more units, cut, none, 0 first, between and last;
+# NQ 1, longest, comma; no loss, one unit; a third, two thirds; a share at, below
+# and above a half; a sum likewise; hidden; the limit
+expected+='2,0,1,0,0,0,2,0,0,0,0,0,0,0,0,0,0,0,0,0,0,0,1,1,1,1,1,1,0,0,0,1,0,'
+# (a) to (y)
+expected+='3,3,1,3,3,0,2,3,1,1,1,0,0,1,0,1,1,1,1,1,3,1,0,1,1,'
+got=$(printf '%b' "$known" | "$sheets" | awk '$1 ~ /^[0-9]/ { printf "%s,", $1 }')
+check 'sheets counted' "$expected" "$got"
+printf '%b' "$known" | "$sheets" >"$scratch/said"
+check 'sheets: a count of 0 fails' 1 $?
+check 'sheets: what is missing' "$(grep -o '\b0,' <<<"$expected" | grep -c .)" "$(grep -c ': MISSING$' "$scratch/said")"
+got=$(printf '%b' "$known" | "$sheets" --text; echo "status $?")
+check 'sheets: the texts' "$(printf '%b' "$known" | "$prog" --sheet; echo 'status 0')" "$got"
+for rest in '\x01' "$(le4 1)" "$(le4 1)$(le4 0)" "$(le4 1)$(le4 0)$(le4 3)ZZ"; do
+    printf '%b' "$known$rest" | "$sheets" >"$scratch/said" 2>&1
+    check "sheets: input cut short $rest" 2 $?
+done
+check 'sheets: an unknown option' 2 "$("$sheets" --nonsense </dev/null >"$scratch/said" 2>&1; echo $?)"
+# the deck writer's own cases, with memory watched: the counter works out every
+# sheet from the engine's rain and excess, the program from the cards
+"$decks" sheets 2 600 >"$scratch/cases"
+"$prog" --sheet <"$scratch/cases" >"$scratch/said"
+check 'sheets: the status on written cases' 0 $?
+"$sheets" --text <"$scratch/cases" | cmp -s - "$scratch/said"
+check 'sheets: the program and the counter agree' 0 $?
+"$sheets" <"$scratch/cases" >"$scratch/said"
+check 'sheets: all written cases are looked at' 600 "$(awk '$2 == "all" { print $1 }' "$scratch/said")"
+check 'sheets: no wrong rule is left' '' "$(grep '(.*: MISSING' "$scratch/said")"
+"$decks" sheets 2 200 >"$scratch/fewer"
+cmp -s "$scratch/fewer" <(head -c $(($(wc -c <"$scratch/fewer"))) "$scratch/cases")
+check 'sheets: the same seed begins alike' 0 $?
+"$decks" sheets 3 200 | cmp -s - "$scratch/fewer"
+check 'sheets: another seed does not' 1 $?
+
 # ---- Fuzz ----------------------------------------------------------------
 
 if "$fuzz" >"$scratch/fuzz" 2>&1; then
