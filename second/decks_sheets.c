@@ -40,6 +40,18 @@ static int few_blocks(Net *n, int most)
     return block;
 }
 
+/* So many that the number of the runoff block, the last one, fills a byte. */
+static int many_blocks(Net *n)
+{
+    int block;
+    do {
+        net_random(n, between(150, LIMIT_BLOCKS), 0, 3, FLOW_SMALL, 25);
+        for (block = n->nb - 1; block >= 0 && n->b[block].kind != 1; block--)
+            ;
+    } while (block < 0 || deck_place(n, block) < 128);
+    return block;
+}
+
 /* ---- the block itself ---- */
 
 enum { MODERATE_RAIN = 30000, MODERATE_UNIT = 5000 };
@@ -238,7 +250,10 @@ int sheet_net(Net *n)
     n->m = at == AT_A_HALF ? minutes_of_a_half[rnd(10)] : pick_minutes();
     n->nq = at == ONE_ORDINATE ? 1 : pct(90) ? between(1, 12) : between(13, 40);
     pick_ratios(n, 45);
-    block = few_blocks(n, at == AT_THE_LIMIT ? 1 : 6);
+    if (at == AT_THE_LIMIT)
+        block = few_blocks(n, 1);
+    else
+        block = pct(2) ? many_blocks(n) : few_blocks(n, 6);
     aim(n, &n->b[block], at);
     return deck_place(n, block);
 }

@@ -1999,8 +1999,8 @@ expected+='2,1,1,0,2,0,1,0,0,0,0,1,1,0,0,0,0,0,0,0,0,'
 # plain, PB, JR, both; no excess, but rain; first, last, last alone; dry and lost
 # between; three in a column; more units, cut, none, 0 first, between and last;
 # NQ 1, longest, comma; no loss, one unit; a third, two thirds; a share at, below
-# and above a half; a sum likewise; hidden; the limit
-expected+='2,0,1,0,0,0,2,0,0,0,0,0,0,0,0,0,0,0,0,0,0,0,1,1,1,1,1,1,0,0,0,1,0,'
+# and above a half; a sum likewise; hidden; the limit; a small ratio; a late block
+expected+='2,0,1,0,0,0,2,0,0,0,0,0,0,0,0,0,0,0,0,0,0,0,1,1,1,1,1,1,0,0,0,1,0,0,0,'
 # (a) to (y)
 expected+='3,3,1,3,3,0,2,3,1,1,1,0,0,1,0,1,1,1,1,1,3,1,0,1,1,'
 got=$(printf '%b' "$known" | "$sheets" | awk '$1 ~ /^[0-9]/ { printf "%s,", $1 }')

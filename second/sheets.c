@@ -653,6 +653,8 @@ enum edge {
     ABOVE_HALF_SUM,
     HIDDEN_SHARE,
     AT_LIMIT,
+    SMALL_RATIO,
+    LATE_BLOCK,
     EDGES
 };
 
@@ -689,7 +691,9 @@ static struct tally edges[EDGES] = {
     [BELOW_HALF_SUM].what = "one unit below a half",
     [ABOVE_HALF_SUM].what = "one unit above a half",
     [HIDDEN_SHARE].what = "a share above 0 that six places show as 0",
-    [AT_LIMIT].what = "a sum at the flow limit"
+    [AT_LIMIT].what = "a sum at the flow limit",
+    [SMALL_RATIO].what = "a ratio below 0.10",
+    [LATE_BLOCK].what = "the 128th block or a later one"
 };
 
 /* A sheet's edges are first seen, then counted: each once in a sheet. */
@@ -814,6 +818,8 @@ static void see_sheet(struct view *view)
     see(view, LONGEST, rows == ORDINATE_LIMIT
                        && block->unit_graph.count == UNIT_GRAPH_LIMIT);
     see(view, COMMA_IN_NAME, memchr(block->name.at, ',', block->name.length));
+    see(view, SMALL_RATIO, asked->answer.ratios.value[asked->ratio] < 10);
+    see(view, LATE_BLOCK, asked->named.block >= 128);
 }
 
 static void count_edges(const struct asked *asked)
