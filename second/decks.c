@@ -338,6 +338,14 @@ static int any_refusal(void)
     return number == 17 ? 18 : number;
 }
 
+/* Behind ZZ nothing is read: what stands there would be more cards of the last block. */
+static void cards_behind(void)
+{
+    static const char cards[] = "PI 1,1\nUI 9\nLU 0,0\n*FREE\nPI 1,1\nUI 9\nLU 0,0\nPB 5\n";
+    deck.ntail = (int)sizeof cards - 1;
+    memcpy(deck.tail, cards, sizeof cards - 1);
+}
+
 /* A deck from a network with a block to be named, whose place is returned. */
 static int aimed_deck(int big)
 {
@@ -346,7 +354,10 @@ static int aimed_deck(int big)
         aimed = big ? sheet_big_net(&net) : sheet_net(&net);
         style_random(&style);
         deck_write(&deck, &net, &style);
+        if (pct(8))
+            cards_behind();
     } while (deck_bytes(&deck, bytes) > LIMIT_BYTES);
+    fill_to = rnd(100) == 0 ? LIMIT_BYTES : 0;
     return aimed;
 }
 

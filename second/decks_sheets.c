@@ -216,11 +216,25 @@ static void few_units(Net *n, Block *b)
         unit_values(b, between(1, 8), 20);
 }
 
+/* As much rain in one interval as there can be: 100 inches under 9.99. */
+static void deep(Net *n, Block *b)
+{
+    int i, all = pct(50);
+    if (n->njr == 0)
+        n->njr = 1;
+    for (i = 0; i < n->njr; i++)
+        if (all || i == 0) n->jr[i] = LIMIT_RATIO;
+    b->npi = 1;
+    b->pi[0] = between(1, LIMIT_PI);
+    b->has_pb = 1;
+    b->pb = LIMIT_PB;
+}
+
 /* ---- networks ---- */
 
 enum {
     USUAL, DRY, AT_THE_END, LONG_UNITS, ZERO_UNITS, NO_UNITS, ONE_ORDINATE, COMMA, AT_A_HALF, AT_THE_LIMIT, WITH_GAPS,
-    FEW_UNITS, AIMS
+    FEW_UNITS, DEEP, AIMS
 };
 
 static void aim(Net *n, Block *b, int at)
@@ -237,6 +251,7 @@ static void aim(Net *n, Block *b, int at)
     case AT_THE_LIMIT: at_the_limit(n, b); break;
     case WITH_GAPS: with_gaps(n, b); break;
     case FEW_UNITS: few_units(n, b); break;
+    case DEEP: deep(n, b); break;
     default: break;
     }
     if (pct(15))

@@ -1873,7 +1873,7 @@ sheet "$(tables 1.00 A 2 'sum,,,,0,0\n' 'sum,,,,0.000000,0.000000\n')" '*FREE\nI
 # how the cards are read: both forms, lists on several lines and among each other,
 # blanks in them, and nothing from the blocks before
 both_forms='IT    15  600000   X 1 2       4\nKK,,A,  TEXT\nBA     1\nPI    .5      .3\n*FREE\nUI 10\nPI .1\nKM *FIX\nUI\nUI ,\nUI 4\nLU .5,.4\n'
-sheet "${up_sheet//,UP/,,,A,}" "${both_forms}ZZ\nKK B\nPI 3\n\x01"
+sheet "${up_sheet//,UP/,,,A,}" "${both_forms}ZZ\nPI 3\nUI 3\nLU 0,0\nPB 1\nKK B\n\x01"
 sheet "${up_sheet//,UP/,,,A,}" "${both_forms}KK B\nPI 9,9,9,9\nPB 1\nUI 7,7,7\nLU 1,1\nBA 1\nKK C\nHC 2\nZZ\n" 1
 sheet "$(tables 1.00 B 4 '2,600000,0,600000,,60000000,0,60000000\nsum,,,,0,60000000,0,60000000\n' \
     '2,1.000000,0.000000,1.000000,,1.000000,0.000000,1.000000\nsum,,,,0.000000,1.000000,0.000000,1.000000\n')" \
@@ -1999,8 +1999,9 @@ expected+='2,1,1,0,2,0,1,0,0,0,0,1,1,0,0,0,0,0,0,0,0,'
 # plain, PB, JR, both; no excess, but rain; first, last, last alone; dry and lost
 # between; three in a column; more units, cut, none, 0 first, between and last;
 # NQ 1, longest, comma; no loss, one unit; a third, two thirds; a share at, below
-# and above a half; a sum likewise; hidden; the limit; a small ratio; a late block
-expected+='2,0,1,0,0,0,2,0,0,0,0,0,0,0,0,0,0,0,0,0,0,0,1,1,1,1,1,1,0,0,0,1,0,0,0,'
+# and above a half; a sum likewise; hidden; the limit; most rain; a small ratio; a
+# late block; the longest deck
+expected+='2,0,1,0,0,0,2,0,0,0,0,0,0,0,0,0,0,0,0,0,0,0,1,1,1,1,1,1,0,0,0,1,0,0,0,0,0,'
 # (a) to (y)
 expected+='3,3,1,3,3,0,2,3,1,1,1,0,0,1,0,1,1,1,1,1,3,1,0,1,1,'
 got=$(printf '%b' "$known" | "$sheets" | awk '$1 ~ /^[0-9]/ { printf "%s,", $1 }')

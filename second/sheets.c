@@ -653,8 +653,10 @@ enum edge {
     ABOVE_HALF_SUM,
     HIDDEN_SHARE,
     AT_LIMIT,
+    MOST_RAIN,
     SMALL_RATIO,
     LATE_BLOCK,
+    LONGEST_DECK,
     EDGES
 };
 
@@ -692,8 +694,10 @@ static struct tally edges[EDGES] = {
     [ABOVE_HALF_SUM].what = "one unit above a half",
     [HIDDEN_SHARE].what = "a share above 0 that six places show as 0",
     [AT_LIMIT].what = "a sum at the flow limit",
+    [MOST_RAIN].what = "999 inches of rain in an interval",
     [SMALL_RATIO].what = "a ratio below 0.10",
-    [LATE_BLOCK].what = "the 128th block or a later one"
+    [LATE_BLOCK].what = "the 128th block or a later one",
+    [LONGEST_DECK].what = "a deck of 60,000 bytes"
 };
 
 /* A sheet's edges are first seen, then counted: each once in a sheet. */
@@ -746,6 +750,7 @@ static void see_row(struct view *view, unsigned k)
     see(view, NO_UNITS, graph->count == 0);
     see(view, NO_LOSS_IN_ROW, figures->loss[k] == 0);
     see(view, ONE_UNIT_OF_EXCESS, figures->excess[k] == 1);
+    see(view, MOST_RAIN, figures->rain[k] == 999 * 600000);
     see_depth(view, figures->rain[k]);
     see_depth(view, figures->loss[k]);
     see_depth(view, figures->excess[k]);
@@ -822,7 +827,7 @@ static void see_sheet(struct view *view)
     see(view, LATE_BLOCK, asked->named.block >= 128);
 }
 
-static void count_edges(const struct asked *asked)
+static void count_edges(const struct asked *asked, size_t length)
 {
     static struct figures figures;
     struct view view = { .asked = asked, .figures = &figures };
@@ -831,6 +836,7 @@ static void count_edges(const struct asked *asked)
         return;
     work_by(&right_rule, asked, &figures);
     see_sheet(&view);
+    see(&view, LONGEST_DECK, length == DECK_LIMIT);
     for (unsigned k = 0; k < EDGES; k++)
         count_if(view.seen[k], &edges[k]);
 }
@@ -852,7 +858,7 @@ static void look_at(const struct sheet_case *sheet, bool text_alone)
     }
     count_answer(&asked);
     count_names(sheet, &asked);
-    count_edges(&asked);
+    count_edges(&asked, sheet->length);
     for (unsigned k = 0; k < WRONG_RULES; k++)
         wrong_rules[k].cases += tells_apart(sheet, &asked,
                                             &wrong_rules[k].rule, right,
