@@ -375,7 +375,7 @@ try 'a name that looks like the number of another' 0 "$(sheet_of 1.00 2)" '' "$h
 try 'a number with a zero that is no name' 2 '' 'hec1: numbers.hc1: block 2 is a routing; only a runoff block has a sheet\n' "$hec1" --sheet 02 numbers.hc1
 try 'a name with a zero that looks like the number of another' 2 '' 'hec1: numbers.hc1: block 2 is a routing; only a runoff block has a sheet\n' "$hec1" --sheet 01 numbers.hc1
 try 'the number of another name' 0 "$(sheet_of 1.00 2)" '' "$hec1" --sheet 1 numbers.hc1
-for odd in -- - --help RATIO END sum 1e0 0x1 a\'b '"q"' '$x' '%s' '*' '[A]' '\n' 'A\' '&' '.'; do
+for odd in -- - --help RATIO END sum 1e0 0x1 a\'b '"q"' '$x' '%s' '*' '[A]' '\n' "A\\" '&' '.'; do
     printf '%b' "$basin" | NAME=$odd awk '$0 == "KK UP" { print "KK " ENVIRON["NAME"]; next } { print }' >odd.hc1
     try "a block called $odd" 0 "$(sheet_of 1.00 "$(printf '%s' "$odd" | sed 's/\\/\\\\/g')")" '' "$hec1" --sheet "$odd" odd.hc1
 done

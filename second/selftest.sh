@@ -1800,8 +1800,8 @@ sheet 'NO SHEET 3\n' "$pond" 4
 sheet 'NO SHEET 3\n' "$pond"
 # what there is not is told last of all
 for text in '5 0' '1 2' '5 2' '0 2' '2 2' '4294967295 0' '1 4294967295' '256 0' '65536 65536'; do
-    sheet 'REFUSED 17 0\n' "$pond" ${text% *} ${text#* }
-    sheet 'REFUSED 10 15\n' "${pond/HC 2/HC 3}" ${text% *} ${text#* }
+    sheet 'REFUSED 17 0\n' "$pond" "${text% *}" "${text#* }"
+    sheet 'REFUSED 10 15\n' "${pond/HC 2/HC 3}" "${text% *}" "${text#* }"
 done
 sheet 'REFUSED 16 0\n' '' 9 9
 sheet 'REFUSED 2 0\n' "$small$(pad 60001)" 9 9
