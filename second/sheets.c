@@ -184,7 +184,8 @@ struct figures {
     uint64_t sum[ORDINATE_LIMIT];
 };
 
-static uint32_t ratio_by(const struct sheet_rule *rule, const struct asked *asked)
+static uint32_t ratio_by(const struct sheet_rule *rule,
+                         const struct asked *asked)
 {
     const struct ratios *ratios = &asked->answer.ratios;
 
@@ -204,8 +205,8 @@ static void rain_under(const struct asked *asked, const struct storm *storm,
     take_ratio(rain, asked->block.rain.count, ratio);
 }
 
-static bool has_row(const struct sheet_rule *rule, const struct figures *figures,
-                    unsigned k)
+static bool has_row(const struct sheet_rule *rule,
+                    const struct figures *figures, unsigned k)
 {
     return rule->rows == EVERY_INTERVAL || figures->excess[k] > 0
         || (rule->rows == WITH_RAIN && figures->rain[k] > 0);
@@ -277,8 +278,9 @@ static uint64_t half_up(uint64_t number, uint64_t by)
     return (2 * number + by) / (2 * by);
 }
 
-/* number / by in millionths. */
-static uint64_t round_by(const struct sheet_rule *rule, uint64_t number, uint64_t by)
+/* number / by, in millionths. */
+static uint64_t round_by(const struct sheet_rule *rule, uint64_t number,
+                         uint64_t by)
 {
     if (rule->rounded_down)
         return number / by;
@@ -493,8 +495,9 @@ static size_t text_by(const struct sheet_rule *rule, const struct asked *asked,
 }
 
 static bool tells_apart(const struct sheet_case *sheet,
-                        const struct asked *asked, const struct sheet_rule *rule,
-                        const char *right, size_t length)
+                        const struct asked *asked,
+                        const struct sheet_rule *rule, const char *right,
+                        size_t length)
 {
     static struct asked other;
     static char wrong[TEXT_ROOM];
