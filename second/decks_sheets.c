@@ -40,7 +40,7 @@ static int few_blocks(Net *n, int most)
     return block;
 }
 
-/* So many that the number of the runoff block, the last one, fills a byte. */
+/* So many that the runoff block, the last one, has a number of 128 or more. */
 static int many_blocks(Net *n)
 {
     int block;
