@@ -71,6 +71,13 @@ proved() {
 # decks, and each refusal named must occur
 compare() {
     awk -v what="$1" -v count="$2" -v need="$3" -v last="$refusals" -v other="$work/second" '
+        # the first line in which two answers differ, a long one cut short
+        function difference(a, b,    i, n, x, y) {
+            n = split(a, x, "\n")
+            split(b, y, "\n")
+            for (i = 1; i < n && x[i] "" == y[i] ""; i++);
+            return "line " i ": " substr(x[i], 1, 100) ", and the second program: " substr(y[i], 1, 100)
+        }
         function report(line) { if (++said <= 5) print "    " line }
         { mine = mine $0 "\n" }
         first == "" { first = $0 == "" ? " " : $0 }
@@ -82,7 +89,7 @@ compare() {
             } while (more > 0 && line != "--")
             n++
             if (mine == theirs) same++
-            else report(what " " n ": " first ", and the second program: " substr(theirs, 1, index(theirs, "\n") - 1))
+            else if (said < 5) report(what " " n ", " difference(mine, theirs))
             if (first ~ /^REFUSED [0-9]+( [0-9]+)?$/) { split(first, f, " "); refused[f[2]]++ }
             else accepted++
             mine = first = ""
