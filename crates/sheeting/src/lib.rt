@@ -2,12 +2,12 @@
 // Each function writes from the first byte on and answers the place behind what it wrote.
 ghost use mathlib.Core.Path.{_≡_};
 ghost use mathlib.Core.List.{_++_};
-ghost use Prim.Native.Nat.{_+_, _≤_};
+ghost use Prim.Native.Nat.{_-_, _≤_};
 ghost use lib.ListN.{length};
 ghost use Rattle.meaning.specs.Lines.{linesOf};
 ghost use Rattle.meaning.specs.Fields.{Fixed};
 ghost use Rattle.meaning.specs.Records.{mostOrdinates};
-ghost use Rattle.meaning.specs.Run.{BeforeTime, placeOf};
+ghost use Rattle.meaning.specs.Run.{BeforeTime};
 ghost use Rattle.meaning.specs.Sheet.{Units, Customary, tableOf, sheetText, sheet};
 ghost use Rattle.blocks.specs.Meant.{timeIs, nameIs};
 ghost use Rattle.blocks.specs.Cards.{blockOf};
@@ -17,7 +17,7 @@ ghost use Rattle.text.specs.Counted.{Counted};
 ghost use Rattle.sheets.specs.Tables.{Ruled, ruled};
 ghost use Rattle.finding.specs.Place.{blockAt};
 ghost use Rattle.sheeting.specs.Sizes.{sheetSize};
-ghost use Rattle.sheeting.specs.Texts.{blockText, sheetAt};
+ghost use Rattle.sheeting.specs.Texts.{blockText, numberOf, sheetAt};
 use answers::Answer;
 use blocks::Name;
 use blocks::Time;
@@ -72,6 +72,38 @@ fn write_tables(
     )
 }
 
+// The same of the runoff block that the cards hold, with words lent for its columns.
+fn write_columns(
+    out: &mut [u8],
+    time: Time,
+    name: Name,
+    cards: &[u64],
+    rains: &mut [u64],
+    losses: &mut [u64],
+    excesses: &mut [u64],
+    sums: &mut [u64],
+) -> usize
+    requires { ⌜ Read (timeIs time) (now cards) ⌝ }
+    requires { ⌜ (length (now rains) ≡ time .ordinates) × (length (now losses) ≡ time .ordinates) × (length (now excesses) ≡ time .ordinates) × (length (now sums) ≡ time .ordinates) ⌝ }
+    requires { ⌜ (name .letters ≤ 6) × (sheetSize ≤ length (now out)) ⌝ }
+    ensures { λ r. ⌜ Written (now (out .entry)) 0 (tableOf Units (timeIs time) (blockOf (nameIs name) (now (cards .entry))) ++ tableOf Customary (timeIs time) (blockOf (nameIs name) (now (cards .entry)))) (now (out .exit)) r ⌝ }
+{
+    columns::fill_columns(rains, losses, excesses, sums, time, cards);
+    let letters = name.letters;
+    let bytes = name.bytes;
+    let units = blocks::values(cards, records::UI);
+    write_tables(
+        out,
+        time.ratio,
+        &bytes[..letters],
+        units,
+        rains,
+        losses,
+        excesses,
+        sums,
+    )
+}
+
 // Words for a column. Their own function: a proof that sees how so many words came to be counts them one by one.
 fn blank_column() -> [u64; ORDINATES] {
     [0u64; ORDINATES]
@@ -84,29 +116,19 @@ fn write_runoff(out: &mut [u8], time: Time, name: Name, cards: &[u64]) -> usize
     ensures { λ r. ⌜ Written (now (out .entry)) 0 (tableOf Units (timeIs time) (blockOf (nameIs name) (now (cards .entry))) ++ tableOf Customary (timeIs time) (blockOf (nameIs name) (now (cards .entry)))) (now (out .exit)) r ⌝ }
 {
     let n = time.ordinates;
-    let letters = name.letters;
-    let bytes = name.bytes;
     let mut rains = blank_column();
     let mut losses = blank_column();
     let mut excesses = blank_column();
     let mut sums = blank_column();
-    columns::fill_columns(
+    write_columns(
+        out,
+        time,
+        name,
+        cards,
         &mut rains[..n],
         &mut losses[..n],
         &mut excesses[..n],
         &mut sums[..n],
-        time,
-        cards,
-    );
-    write_tables(
-        out,
-        time.ratio,
-        &bytes[..letters],
-        blocks::values(cards, records::UI),
-        &rains[..n],
-        &losses[..n],
-        &excesses[..n],
-        &sums[..n],
     )
 }
 
@@ -123,10 +145,20 @@ fn write_sheet(out: &mut [u8], time: Time, name: Name, cards: &[u64]) -> usize
     sheets::write_no_sheet(out, 0, kind as u64)
 }
 
-// The sheet of the block of that number, from 1, under the ratio at a place, from 0; nothing where the block is not found.
-fn sheet_block(deck: &[u8], number: usize, place: usize, out: &mut [u8]) -> usize
+// The number before, or 0.
+fn before(number: usize) -> usize
+    ensures { λ r. ⌜ r ≡ number - 1 ⌝ }
+{
+    if number == 0 {
+        return 0;
+    }
+    number - 1
+}
+
+// The sheet of the block of that number under the ratio of that number, both from 1; nothing where the block is not found.
+fn sheet_block(deck: &[u8], number: usize, ratio: usize, out: &mut [u8]) -> usize
     requires { ⌜ sheetSize ≤ length (now out) ⌝ }
-    ensures { λ r. ⌜ Written (now (out .entry)) 0 (sheetAt place (blockAt (linesOf (now (deck .entry))) (BeforeTime Fixed) number)) (now (out .exit)) r ⌝ }
+    ensures { λ r. ⌜ Written (now (out .entry)) 0 (sheetAt (ratio - 1) (blockAt (linesOf (now (deck .entry))) (BeforeTime Fixed) number)) (now (out .exit)) r ⌝ }
 {
     let mut cards = [0u64; records::WORDS];
     let found = finding::find_block(deck, number, &mut cards);
@@ -134,20 +166,20 @@ fn sheet_block(deck: &[u8], number: usize, place: usize, out: &mut [u8]) -> usiz
     let name = found.name;
     if found.there {
         let ratios = time.ratios;
-        let ratio = blocks::ratio_at(ratios, place);
-        return write_sheet(out, blocks::under(time, ratio), name, &cards);
+        let rate = blocks::ratio_at(ratios, before(ratio));
+        return write_sheet(out, blocks::under(time, rate), name, &cards);
     }
     0
 }
 
-// The place, from 0, of what is named by its number; 0 stands for the last of so many.
-fn place_of(named: usize, count: usize) -> usize
-    ensures { λ r. ⌜ r ≡ placeOf named count ⌝ }
+// The number of what is named; 0 names the last of so many.
+fn number_of(named: usize, count: usize) -> usize
+    ensures { λ r. ⌜ r ≡ numberOf named count ⌝ }
 {
     if named == 0 {
-        return count - 1;
+        return count;
     }
-    named - 1
+    named
 }
 
 // The sheet of a deck's block under a ratio, both by their numbers, or the line of its refusal. With 6,000 words, 300 ordinates and the records of 200 blocks
@@ -162,9 +194,9 @@ pub fn sheet_deck(deck: &[u8], named: usize, ratio: usize, out: &mut [u8]) -> us
     let mut records = [0u8; RECORDS];
     match engine::run(deck, named, ratio, &mut work, &mut ordinates, &mut records) {
         Answer::Accepted(_, blocks, ratios) => {
-            let number = place_of(named, blocks) + 1;
-            let place = place_of(ratio, ratios);
-            sheet_block(deck, number, place, out)
+            let block = number_of(named, blocks);
+            let place = number_of(ratio, ratios);
+            sheet_block(deck, block, place, out)
         }
         Answer::Refused(number, line) => printing::write_refusal(out, number, line),
     }

@@ -8,39 +8,39 @@ use Rattle.shaping.proofs.number_of.Reads as number-of-reads
 use Rattle.sheeting.proofs.write_runoff.Reads as write-runoff-reads
 use Rattle.sheets.proofs.write_no_sheet.Reads as write-no-sheet-reads
 
--- src/lib.rt:119:35
+-- src/lib.rt:141:35
 kind-of-requires : tie.Need-kind-of-requires
 kind-of-requires c κs = search needs
 
--- src/lib.rt:119:9
+-- src/lib.rt:141:9
 number-of-requires : tie.Need-number-of-requires
 number-of-requires c κs = search needs
 
--- src/lib.rt:121:9
+-- src/lib.rt:143:9
 write-runoff-requires : tie.Need-write-runoff-requires
 write-runoff-requires c κs = search needs
 
--- src/lib.rt:121:9
+-- src/lib.rt:143:9
 same-length : tie.Need-same-length
 same-length c = search needs
 
--- src/lib.rt:121:9
+-- src/lib.rt:143:9
 returns : tie.Need-returns
 returns c = ?
 
--- src/lib.rt:123:36
+-- src/lib.rt:145:36
 cast-write-no-sheet : tie.Need-cast-write-no-sheet
 cast-write-no-sheet c = search needs
 
--- src/lib.rt:123:5
+-- src/lib.rt:145:5
 write-no-sheet-requires : tie.Need-write-no-sheet-requires
 write-no-sheet-requires c κs = search needs
 
--- src/lib.rt:114:1
+-- src/lib.rt:136:1
 same-length-2 : tie.Need-same-length-2
 same-length-2 c = search needs
 
--- src/lib.rt:114:1
+-- src/lib.rt:136:1
 returns-2 : tie.Need-returns-2
 returns-2 c = ?
 
