@@ -3,7 +3,7 @@
 --     figureText    a figure in a measure, where it is given in both
 --     depth-figure, flow-figure   a depth and a flow are such figures
 --     shareBy       the share of an interval by its excess
-use Prim.Native.Nat.{ℕ, _+_, _-_, _*_, _/_}
+use Prim.Native.Nat.{ℕ, _-_, _*_}
 use mathlib.Core.Path.{_≡_, refl}
 use mathlib.Core.Bool.{_&&_}
 use mathlib.Core.List.{List, [], _++_}

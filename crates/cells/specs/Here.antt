@@ -1,6 +1,6 @@
 -- A figure that was written, as the depth or the flow that it is.
 use Prim.Native.Nat.{ℕ}
-use mathlib.Core.Path.{_≡_, ap}
+use mathlib.Core.Path.{_≡_}
 use mathlib.Core.List.{List}
 use Rattle.text.specs.Written.{Written}
 use Rattle.meaning.specs.Sheet.{Measure, inchMillionths, cfsMillionths, depthText, flowText}

@@ -8,7 +8,7 @@ use Rattle.text.specs.Digits.{whole-within, length-sixPlaces}
 use Rattle.text.specs.Written.{Written}
 use Rattle.meaning.specs.Words.{_≤?_, _<?_, if_then_else_}
 use Rattle.meaning.specs.Listing.{whole}
-use Rattle.meaning.specs.Sheet.{Measure, Units, Customary, sixPlaces, depthText, flowText, inchMillionths, cfsMillionths}
+use Rattle.meaning.specs.Sheet.{Measure, Units, Customary, depthText, flowText, inchMillionths, cfsMillionths}
 use Rattle.cells.specs.Sizes.{cellSize, depthsSize}
 use Rattle.cells.specs.Cells.{cell, figureText, depthsText, shareBy, depth-figure, flow-figure}
 
@@ -28,7 +28,7 @@ flow-short m flow = rw (flow-figure m flow) (figure-short m flow (cfsMillionths 
 pub depths-short : (m : Measure) (rain loss excess : ℕ) → length (depthsText m rain loss excess) ≤ depthsSize
 depths-short m rain loss excess = simp length-append (omega (arith, depth-short m rain, depth-short m loss, depth-short m excess))
 
--- so is the place behind them
+-- the same by the place behind them
 pub behind-depths : (m : Measure) (rain loss excess : ℕ) {at behind : ℕ} {out next : List ℕ} → Written out at (depthsText m rain loss excess) next behind → behind ≤ at + depthsSize
 behind-depths m rain loss excess w = omega (arith, w .place, depths-short m rain loss excess)
 

@@ -3,16 +3,15 @@
 --     share-falls                   between these one does
 --     share-text                    by the excess of the interval, it is the share of the sheet
 use Prim.Native.Nat.{ℕ, _-_, _*_, _≤_, _<_}
-use mathlib.Core.Path.{_≡_, refl, sym, ap, _∙_}
-use mathlib.Core.Bool.{Bool, true, false, and-false}
+use mathlib.Core.Path.{_≡_}
 use mathlib.Core.Logic.{⊎-elim}
 use mathlib.Core.List.{List, []}
 use native.Mathlib.Omega.{arith}
 use lib.ListN.{length, getD}
 use borrow.Author.Tests.{lt-ltb, le-ltb, le-leb, lt-leb}
 use Rattle.sequences.specs.Choices.{below-or-not}
-use Rattle.meaning.specs.Words.{_≤?_, if_then_else_}
-use Rattle.meaning.specs.Sheet.{Measure, Sheet, flowText, shareText, shareAt}
+use Rattle.meaning.specs.Words.{if_then_else_}
+use Rattle.meaning.specs.Sheet.{Measure, Sheet, flowText, shareText}
 use Rattle.cells.specs.Cells.{shareBy}
 
 module _ (m : Measure) (units : List ℕ) (excess k i : ℕ) where

@@ -1,4 +1,4 @@
--- How many bytes cells take at most, and the bounds below which no figure passes 64 bits.
+-- How many bytes cells take at most, and the bounds up to which no figure passes 64 bits.
 use Prim.Native.Nat.{ℕ, _*_}
 
 -- A comma, at most 20 digits, the point, six places.

@@ -79,9 +79,9 @@ module _ (m : Measure) (s : Sheet) where
   unfolding if_then_else_
   row-none k none = rw (le-ltb 0 (getD (s .excesses) k 0) (omega arith))
 
-  pub row-some : (k : ℕ) → (getD (s .excesses) k 0 ≡ 0 → ⊥) → rowAt m s k ≡ rowLine m s k
+  pub row-some : (k : ℕ) → 0 < getD (s .excesses) k 0 → rowAt m s k ≡ rowLine m s k
   unfolding if_then_else_
-  row-some k some = rw (lt-ltb 0 (getD (s .excesses) k 0) (omega arith))
+  row-some k some = rw (lt-ltb 0 (getD (s .excesses) k 0) some)
 
   pub row-cells : (k : ℕ) → rowLine m s k
       ≡ whole (k + 1)

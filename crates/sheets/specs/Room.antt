@@ -2,7 +2,7 @@
 --     head-short, row-short, rows-short, sum-short     at most rowSize bytes a line
 --     title-short, table-short                         at most titleSize, and tableSize
 --     rows-up, rows-all                                one row more is within them all, and all of them, the head and the sums are the table
-use Prim.Native.Nat.{ℕ, suc, _+_, _*_, _/_, _≤_, _<_}
+use Prim.Native.Nat.{ℕ, _+_, _*_, _/_, _≤_, _<_}
 use mathlib.Core.Path.{_≡_}
 use mathlib.Core.Bool.{Bool, true, false}
 use mathlib.Core.List.{List, [], _∷_, _++_}

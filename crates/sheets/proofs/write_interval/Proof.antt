@@ -11,12 +11,14 @@ use Rattle.sheets.proofs.write_interval.Tie as tie
 returns : tie.Need-returns
 returns c =
     let x = c .before .before .before .before .before .before .before .args in
-    rw (row-none (measureIs (x .measure)) (ruled (x .units .now) (x .rains .now) (x .losses .now) (x .excesses .now)) (x .k) (omega (arith, c .if1 .taken))) (written-none _ _)
+    rw (row-none (measureIs (x .measure)) (ruled (x .units .now) (x .rains .now) (x .losses .now) (x .excesses .now)) (x .k) (omega (arith, c .if1 .taken)))
+    (written-none _ _)
 
 returns-2 : tie.Need-returns-2
 returns-2 c =
     let x = c .before .before .before .before .before .before .before .before .before .before .before .args in
-    rw (row-some (measureIs (x .measure)) (ruled (x .units .now) (x .rains .now) (x .losses .now) (x .excesses .now)) (x .k) (c .before .before .before .before .if1 .left)) (c .before .before .write-row .ensures)
+    rw (row-some (measureIs (x .measure)) (ruled (x .units .now) (x .rains .now) (x .losses .now) (x .excesses .now)) (x .k) (omega (arith, c .before .before .before .before .if1 .left)))
+    (c .before .before .write-row .ensures)
 
 pub write-interval-spec : {M : Type 1} → statement M
 write-interval-spec =

@@ -42,8 +42,10 @@ write-depths-requires : tie.Need-write-depths-requires
 write-depths-requires c κs =
     let n = c .before .before .before .before .before .before in
     let s = entry n in
-    let k = s .args .k in
-    (s .pre .0 .rains-up k, s .pre .0 .losses-up k, s .pre .0 .excesses-up k, omega (arith, from-number n))
+    let rain = s .pre .0 .rains-up (s .args .k) in
+    let loss = s .pre .0 .losses-up (s .args .k) in
+    let excess = s .pre .0 .excesses-up (s .args .k) in
+    (omega arith, omega arith, omega arith, omega (arith, from-number n))
 
 write-shares-requires : tie.Need-write-shares-requires
 write-shares-requires c κs =

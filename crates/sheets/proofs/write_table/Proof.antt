@@ -1,7 +1,6 @@
 -- The head, the rows and the sums, one behind another. There are as many sums as excesses.
-use Prim.Native.Nat.{ℕ, _+_, _*_, _≤_}
+use Prim.Native.Nat.{_+_, _*_, _≤_}
 use native.Mathlib.Omega.{arith}
-use lib.ListN.{length}
 use Rattle.meaning.specs.Sheet.{Sheet}
 use Rattle.text.specs.Written.{written-more}
 use Rattle.cells.specs.Cells.{measureIs}
