@@ -1,16 +1,18 @@
 -- How much room the lines of a table take.
---     head-short, row-short, rows-short, sum-short     at most rowSize bytes a line
---     title-short, table-short                         at most titleSize, and tableSize
---     rows-up, rows-all                                one row more is within them all, and all of them, the head and the sums are the table
+--     numbers-short, shares-short, flows-short       the cells of a line take at most cellSize bytes each; behind-shares: by the place behind them
+--     head-short, row-short, all-short, sum-short    a line takes at most rowSize
+--     rows-up, rows-all                              one row more is within them all, and all of them, the head and the sums are the table
+--     table-short, title-short                       at most tableSize, and titleSize; table-most: the table of the most ordinates is the largest
 use Prim.Native.Nat.{ℕ, _+_, _*_, _/_, _≤_, _<_}
 use mathlib.Core.Path.{_≡_}
 use mathlib.Core.Bool.{Bool, true, false}
 use mathlib.Core.List.{List, [], _∷_, _++_}
-use native.Mathlib.Nat.{mul-le-mul-left}
+use native.Mathlib.Nat.{mul-le-mul, mul-le-mul-left}
 use native.Mathlib.Omega.{arith}
 use lib.ListN.{length, getD, length-append}
 use Rattle.meaning.specs.Words.{_<?_, if_then_else_, bytes}
 use Rattle.meaning.specs.Lines.{lf}
+use Rattle.meaning.specs.Records.{mostOrdinates}
 use Rattle.meaning.specs.Listing.{whole, twoPlaces}
 use Rattle.meaning.specs.Sheet.{Measure, Units, Customary, Sheet, measureName, titleLine, cellsFrom, flowText, headLine, rowLine, sumLine, rowsFrom, tableText}
 use Rattle.text.specs.Digits.{whole-within, length-twoPlaces}
@@ -81,6 +83,10 @@ pub table-short : (m : Measure) (s : Sheet) (sums : List ℕ) → length (tableT
 table-short m s sums =
     let n = s .intervals in
     simp length-append (omega (arith, head-short n, all-short m s n, sum-short m sums n, rows-all (rowSize n) n))
+
+-- that of the most ordinates is the largest
+pub table-most : (n : ℕ) → n ≤ mostOrdinates → tableSize n ≤ tableSize mostOrdinates
+table-most n few = mul-le-mul {n₁ = rowSize n} {m₁ = n + 2} {n₂ = rowSize mostOrdinates} {m₂ = mostOrdinates + 2} (omega arith) (omega arith)
 
 -- THE TITLE
 pub measure-short : (m : Measure) → length (measureName m ++ bytes ",") ≤ nameSize

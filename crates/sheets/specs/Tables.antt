@@ -1,5 +1,5 @@
 -- What a table is made from, as the code is lent it.
---     ruled    the sheet of so many intervals as there are excesses
+--     ruled    the sheet of so many intervals as there are excesses; ruled-of: by their number
 --     Ruled    what is asked of it: a rain and a loss for each excess, and no figure too large
 --     rowAt    the row of an interval, if it has excess
 use Prim.Native.Nat.{ℕ}
@@ -13,6 +13,10 @@ use Rattle.cells.specs.Sizes.{mostDepth, mostUnit}
 
 abbrev pub ruled : (units rains losses excesses : List ℕ) → Sheet
 ruled units rains losses excesses = record { units = units; rains = rains; losses = losses; excesses = excesses; intervals = length excesses }
+
+pub ruled-of : (units rains losses excesses : List ℕ) (n : ℕ) → length excesses ≡ n
+    → ruled units rains losses excesses ≡ record { units = units; rains = rains; losses = losses; excesses = excesses; intervals = n }
+ruled-of units rains losses excesses n long = rw long
 
 pub record Ruled (units rains losses excesses : List ℕ) : Type 0 where
   pub rain-each : length rains ≡ length excesses
