@@ -16,10 +16,16 @@ write-six-places-requires c κs =
     omega (arith, length-sixPlaces x, whole-within (x / 1_000_000))
 
 returns : tie.Need-returns
-returns c = rw (c .before .before .before .before .enum-told .given .1) (written-more (omega arith) (c .before .before .before .before .before .before .before .before .write-byte .ensures) (c .before .before .write-whole .ensures))
+returns c =
+    let told = c .before .before .before .before in
+    let comma = told .before .before .before .before in
+    rw (told .enum-told .given .1) (written-more (omega arith) (comma .write-byte .ensures) (c .before .before .write-whole .ensures))
 
 returns-2 : tie.Need-returns-2
-returns-2 c = rw (c .before .before .before .before .enum-told2 .given .1) (written-more (omega arith) (c .before .before .before .before .before .before .before .before .write-byte .ensures) (c .before .before .write-six-places .ensures))
+returns-2 c =
+    let told = c .before .before .before .before in
+    let comma = told .before .before .before .before in
+    rw (told .enum-told2 .given .1) (written-more (omega arith) (comma .write-byte .ensures) (c .before .before .write-six-places .ensures))
 
 pub write-figure-spec : {M : Type 1} → statement M
 write-figure-spec =
