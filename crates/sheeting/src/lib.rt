@@ -192,11 +192,12 @@ pub fn sheet_deck(deck: &[u8], named: usize, ratio: usize, out: &mut [u8]) -> us
     let mut work = [0u64; answers::WORK];
     let mut ordinates = [0u64; ORDINATES];
     let mut records = [0u8; RECORDS];
-    match engine::run(deck, named, ratio, &mut work, &mut ordinates, &mut records) {
+    let answer = engine::run(deck, named, ratio, &mut work, &mut ordinates, &mut records);
+    match answer {
         Answer::Accepted(_, blocks, ratios) => {
             let block = number_of(named, blocks);
-            let place = number_of(ratio, ratios);
-            sheet_block(deck, block, place, out)
+            let rate = number_of(ratio, ratios);
+            sheet_block(deck, block, rate, out)
         }
         Answer::Refused(number, line) => printing::write_refusal(out, number, line),
     }

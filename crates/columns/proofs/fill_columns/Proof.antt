@@ -68,9 +68,10 @@ find-losses-requires c κs =
     let fell = c .before .before .before .before .before .before .before .before .before .storm-rain in
     let left = c .before .before .before .before .before .storm-excess in
     let rains = rains-are got [] (s .pre .1 .0) (fell .ensures) in
-    let excesses = excesses-are got [] (s .pre .1 .2) (left .ensures) in
-    ((omega (arith, ap length rains, length-block-rain (τ got) (block got []), s .pre .1 .1), omega (arith, ap length excesses, length-block-excess (τ got) (block got []), s .pre .1 .1)),
-    λ (k : ℕ). rw (rains, excesses) (left-within (τ got) (block got []) k))
+    let excesses = excesses-are got [] (s .pre .1 .2) (left .ensures) in (
+      (omega (arith, ap length rains, length-block-rain (τ got) (block got []), s .pre .1 .1), omega (arith, ap length excesses, length-block-excess (τ got) (block got []), s .pre .1 .1)),
+      λ (k : ℕ). rw (rains, excesses) (left-within (τ got) (block got []) k),
+    )
 
 runoff-into-requires : tie.Need-runoff-into-requires
 runoff-into-requires c κs =

@@ -1,65 +1,67 @@
+-- `sheeting::sheet_block` meets its contract: where the block is there, its sheet is written under the ratio at the place before the number; where it is not, nothing is.
+use Prim.Native.Nat.{ℕ, _-_}
+use mathlib.Core.Path.{_≡_, ap, subst, _∙_}
+use mathlib.Core.List.{List, []}
+use native.Mathlib.Omega.{arith}
 use borrow.Author.Needs.{needs}
+use lib.ListN.{getD}
+use Rattle.meaning.specs.Lines.{linesOf}
+use Rattle.meaning.specs.Fields.{Fixed}
+use Rattle.meaning.specs.Run.{BeforeTime}
+use Rattle.meaning.specs.Sheet.{sheetText}
+use Rattle.blocks.specs.declared.Time.{Time}
+use Rattle.blocks.specs.Meant.{ratiosIs, timeIs, nameIs}
+use Rattle.blocks.specs.Cards.{blockOf}
+use Rattle.text.specs.Written.{Written, written-none}
+use Rattle.finding.specs.Place.{Place, blockAt}
+use Rattle.sheeting.specs.Texts.{Shown, few-listed, shown-there, nothing-there}
 use Rattle.sheeting.proofs.sheet_block.Statement.{statement}
 use Rattle.sheeting.proofs.sheet_block.Tie as tie
-use Rattle.sheeting.proofs.sheet_block.Reads as reads
-use Rattle.sheeting.proofs.sheet_block.Lts as lts
-use Rattle.blocks.proofs.ratio_at.Reads as ratio-at-reads
-use Rattle.blocks.proofs.under.Reads as under-reads
-use Rattle.finding.proofs.find_block.Reads as find-block-reads
-use Rattle.sheeting.proofs.before.Reads as before-reads
-use Rattle.sheeting.proofs.write_sheet.Reads as write-sheet-reads
 
--- src/lib.rt:164:51
-slice-aggregate-find-block : tie.Need-slice-aggregate-find-block
-slice-aggregate-find-block c = search needs
+-- THE BLOCK, where it is found
+abbrev Found : Type 0
+Found = tie.After-find-block
 
--- src/lib.rt:164:9
-find-block-requires : tie.Need-find-block-requires
-find-block-requires c κs = search needs
+abbrev place : Found → Place
+place c = blockAt (linesOf (c .before .before .before .before .args .deck .now)) (BeforeTime Fixed) (c .before .before .before .before .args .number)
 
--- src/lib.rt:169:45
-before-requires : tie.Need-before-requires
-before-requires c κs = search needs
-
--- src/lib.rt:169:13
 ratio-at-requires : tie.Need-ratio-at-requires
-ratio-at-requires c κs = ?
+ratio-at-requires c κs =
+    let found = c .before .before .before .before .before .before in
+    few-listed (found .find-block .result) (found .find-block .last .1 .1 .0) (place found) (found .find-block .ensures) (c .before .before .if1 .taken)
 
--- src/lib.rt:170:33
-under-requires : tie.Need-under-requires
-under-requires c κs = search needs
+-- what is shown of it, under the ratio that was looked up
+shown : (c : tie.After-under) → let f = c .before .before .before .before .before .before .before .before .before in Shown (place f) (f .find-block .result) (f .find-block .last .1 .1 .0) (f .before .before .before .before .args .ratio - 1) (c .before .before .ratio-at .result)
+shown c =
+    let f = c .before .before .before .before .before .before .before .before .before in
+    let x = f .find-block .result in
+    shown-there x (f .find-block .last .1 .1 .0) (place f) (f .find-block .ensures) (c .before .before .before .before .before .if1 .taken) _ _
+    (c .before .before .ratio-at .ensures ∙ ap (λ (k : ℕ). getD (ratiosIs (x .time .ratios)) k 100) (c .before .before .before .before2 .ensures))
 
--- src/lib.rt:170:66
-slice-aggregate-write-sheet : tie.Need-slice-aggregate-write-sheet
-slice-aggregate-write-sheet c = search needs
-
--- src/lib.rt:170:9
 write-sheet-requires : tie.Need-write-sheet-requires
-write-sheet-requires c κs = ?
+write-sheet-requires c κs =
+    let s = c .before .before .before .before .before .before .before .before .before .before .before .before .before .before in
+    let sheet = shown (c .before) in
+    (rw (c .before .under .ensures) (sheet .read), (sheet .letters, s .pre))
 
--- src/lib.rt:170:9
-same-length : tie.Need-same-length
-same-length c = search needs
-
--- src/lib.rt:170:9
 returns : tie.Need-returns
-returns c = ?
+returns c =
+    let under = c .before .before .before .before .under in
+    let sheet = shown (c .before .before .before .before) in
+    let written = c .before .before .write-sheet in
+    let found = c .before .before .before .before .before .before .before .before .before .before .before .before .before .find-block in
+    let text = ap (λ (t : Time). sheetText (timeIs t) (blockOf (nameIs (found .result .name)) (found .last .1 .1 .0))) (under .ensures) ∙ sheet .text in
+    subst (λ (t : List ℕ). Written (c .before .before .before .before .before .before .before .before .before .before .before .before .before .before .before .before .before .args .out .now) 0 t (written .last .0) (written .result)) text (written .ensures)
 
--- src/lib.rt:159:1
 returns-2 : tie.Need-returns-2
-returns-2 c = ?
+returns-2 c =
+    let found = c .before .before .before .before in
+    let none = nothing-there (found .find-block .result) (found .find-block .last .1 .1 .0) (place found) (found .find-block .ensures) (c .if1 .left) (c .before .before .before .before .before .before .before .before .args .ratio - 1) in
+    rw none (written-none (c .before .before .before .before .before .before .before .before .args .out .now) 0)
 
 pub sheet-block-spec : {M : Type 1} → statement M
 sheet-block-spec =
     tie.close
     (tie.spec
-    slice-aggregate-find-block
-    find-block-requires
-    before-requires
-    ratio-at-requires
-    under-requires
-    slice-aggregate-write-sheet
-    write-sheet-requires
-    same-length
-    returns
-    returns-2)
+    (λ c. search needs) (λ c κs. search needs) (λ c κs. search needs) ratio-at-requires (λ c κs. search needs) (λ c. search needs) write-sheet-requires (λ c. search needs)
+    returns returns-2)

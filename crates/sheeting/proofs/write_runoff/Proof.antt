@@ -1,87 +1,41 @@
+-- `sheeting::write_runoff` meets its contract: each column is lent as many words as there are ordinates.
+use Prim.Native.Nat.{ℕ, _≤_}
+use mathlib.Core.Path.{_≡_, sym}
+use mathlib.Core.List.{List}
+use native.Mathlib.Omega.{arith}
 use borrow.Author.Needs.{needs}
+use lib.ListN.{length, take}
+use lib.Seq.{length-take-le}
+use Rattle.meaning.specs.Records.{mostOrdinates}
 use Rattle.sheeting.proofs.write_runoff.Statement.{statement}
 use Rattle.sheeting.proofs.write_runoff.Tie as tie
-use Rattle.sheeting.proofs.write_runoff.Reads as reads
-use Rattle.sheeting.proofs.write_runoff.Lts as lts
-use Rattle.sheeting.proofs.blank_column.Reads as blank-column-reads
-use Rattle.sheeting.proofs.write_columns.Reads as write-columns-reads
 
--- src/lib.rt:119:21
-blank-column-requires : tie.Need-blank-column-requires
-blank-column-requires c κs = search needs
+-- a column is as long as its part of the words
+lent : (n : ℕ) (column : List ℕ) → length column ≡ 300 → n ≤ mostOrdinates → length (take n column) ≡ n
+lent n column long few = length-take-le n column (omega arith)
 
--- src/lib.rt:120:22
-blank-column-requires-2 : tie.Need-blank-column-requires-2
-blank-column-requires-2 c κs = search needs
-
--- src/lib.rt:121:24
-blank-column-requires-3 : tie.Need-blank-column-requires-3
-blank-column-requires-3 c κs = search needs
-
--- src/lib.rt:122:20
-blank-column-requires-4 : tie.Need-blank-column-requires-4
-blank-column-requires-4 c κs = search needs
-
--- src/lib.rt:128:9
-array-borrow-prefix-rains : tie.Need-array-borrow-prefix-rains
-array-borrow-prefix-rains c = search needs
-
--- src/lib.rt:128:9
-slice-aggregate-write-columns : tie.Need-slice-aggregate-write-columns
-slice-aggregate-write-columns c = ?
-
--- src/lib.rt:129:9
-array-borrow-prefix-losses : tie.Need-array-borrow-prefix-losses
-array-borrow-prefix-losses c = search needs
-
--- src/lib.rt:129:9
-slice-aggregate-write-columns-2 : tie.Need-slice-aggregate-write-columns-2
-slice-aggregate-write-columns-2 c = ?
-
--- src/lib.rt:130:9
-array-borrow-prefix-excesses : tie.Need-array-borrow-prefix-excesses
-array-borrow-prefix-excesses c = search needs
-
--- src/lib.rt:130:9
-slice-aggregate-write-columns-3 : tie.Need-slice-aggregate-write-columns-3
-slice-aggregate-write-columns-3 c = ?
-
--- src/lib.rt:131:9
-array-borrow-prefix-sums : tie.Need-array-borrow-prefix-sums
-array-borrow-prefix-sums c = search needs
-
--- src/lib.rt:131:9
-slice-aggregate-write-columns-4 : tie.Need-slice-aggregate-write-columns-4
-slice-aggregate-write-columns-4 c = ?
-
--- src/lib.rt:123:5
 write-columns-requires : tie.Need-write-columns-requires
-write-columns-requires c κs = ?
-
--- src/lib.rt:113:1
-same-length : tie.Need-same-length
-same-length c = search needs
-
--- src/lib.rt:113:1
-returns : tie.Need-returns
-returns c = search needs
+write-columns-requires c κs =
+    let s = c .before .before .before .before .before .before .before .before .before .before .before in
+    let few = s .pre .0 .time .few-ordinates in
+    (s .pre .0, ((lent _ _ (search needs) few, lent _ _ (search needs) few, lent _ _ (search needs) few, lent _ _ (search needs) few), s .pre .1))
 
 pub write-runoff-spec : {M : Type 1} → statement M
 write-runoff-spec =
     tie.close
     (tie.spec
-    blank-column-requires
-    blank-column-requires-2
-    blank-column-requires-3
-    blank-column-requires-4
-    array-borrow-prefix-rains
-    slice-aggregate-write-columns
-    array-borrow-prefix-losses
-    slice-aggregate-write-columns-2
-    array-borrow-prefix-excesses
-    slice-aggregate-write-columns-3
-    array-borrow-prefix-sums
-    slice-aggregate-write-columns-4
+    (λ c κs. search needs)  -- blank-column-requires
+    (λ c κs. search needs)  -- blank-column-requires-2
+    (λ c κs. search needs)  -- blank-column-requires-3
+    (λ c κs. search needs)  -- blank-column-requires-4
+    (λ c. search needs)  -- array-borrow-prefix-rains
+    (λ c. sym (lent _ _ (search needs) (c .before .before .before .before .before .before .before .before .pre .0 .time .few-ordinates)))  -- slice-aggregate-write-columns
+    (λ c. search needs)  -- array-borrow-prefix-losses
+    (λ c. sym (lent _ _ (search needs) (c .before .before .before .before .before .before .before .before .before .pre .0 .time .few-ordinates)))  -- slice-aggregate-write-columns-2
+    (λ c. search needs)  -- array-borrow-prefix-excesses
+    (λ c. sym (lent _ _ (search needs) (c .before .before .before .before .before .before .before .before .before .before .pre .0 .time .few-ordinates)))  -- slice-aggregate-write-columns-3
+    (λ c. search needs)  -- array-borrow-prefix-sums
+    (λ c. sym (lent _ _ (search needs) (c .before .before .before .before .before .before .before .before .before .before .before .pre .0 .time .few-ordinates)))  -- slice-aggregate-write-columns-4
     write-columns-requires
-    same-length
-    returns)
+    (λ c. search needs)  -- same-length
+    (λ c. search needs))
