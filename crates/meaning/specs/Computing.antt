@@ -1,4 +1,4 @@
--- What a proof by computation unfolds: `unfolding computing` is every definition on the way from a deck's bytes to its outcome and its listing.
+-- What a proof by computation unfolds: `unfolding computing` is every definition on the way from a deck's bytes to its outcome, its listing and its sheets.
 use Rattle.meaning.specs.Words.{if_then_else_, same}
 use Rattle.meaning.specs.Lines.{linesOf, allPlain, foreign, allBlank}
 use Rattle.meaning.specs.Fields.{trimEnd, skipBlanks, strip, fixedField, fixedFields, markOf, freeFrom, freeFields, fieldsOf, word}
@@ -9,8 +9,9 @@ use Rattle.meaning.specs.Blocks.{tooMany, holds, kindOf, takes, stormRai
 use Rattle.meaning.specs.Results.{oldRecordOf, recordOf}
 use Rattle.meaning.specs.Run.{headOf, timeRefusal, timeOf, ratioRefusal, withRatios, nameRefusal, itemRefusal, withItem, readLine, shapeRefusal, flowRefusal, closingRefusal, withResult, walk, workedUnder, namedFlow, namedRatio, noRoom, outcome}
 use Rattle.meaning.specs.Listing.{whole, twoPlaces, listed, refusedLine, ratioLine, endLine, listing}
+use Rattle.meaning.specs.Sheet.{sixPlaces, titleLine, headLine, rowLine, sumLine, noSheetLine, sheet}
 use Rattle.meaning.specs.Moving.{recordsIn, anyFilled, anyOther, toNew, toOld}
 
 unfoldable pub computing : Unit {0}
-unfolding if_then_else_ same linesOf allPlain foreign allBlank trimEnd skipBlanks strip fixedField fixedFields markOf freeFrom freeFields fieldsOf word unsigned beforePoint behindPoint allDigits readOn decimalOf numberOf inUnits begins says identify valueFields anyField valuesFrom anyBlank wordIn badName rainOf cutOf weighed tooMany holds kindOf takes stormRain rain patternless loss excess made broken oldRecordOf recordOf headOf timeRefusal timeOf ratioRefusal withRatios nameRefusal itemRefusal withItem readLine shapeRefusal flowRefusal closingRefusal withResult walk workedUnder namedFlow namedRatio noRoom outcome whole twoPlaces listed refusedLine ratioLine endLine listing recordsIn anyFilled anyOther toNew toOld
+unfolding if_then_else_ same linesOf allPlain foreign allBlank trimEnd skipBlanks strip fixedField fixedFields markOf freeFrom freeFields fieldsOf word unsigned beforePoint behindPoint allDigits readOn decimalOf numberOf inUnits begins says identify valueFields anyField valuesFrom anyBlank wordIn badName rainOf cutOf weighed tooMany holds kindOf takes stormRain rain patternless loss excess made broken oldRecordOf recordOf headOf timeRefusal timeOf ratioRefusal withRatios nameRefusal itemRefusal withItem readLine shapeRefusal flowRefusal closingRefusal withResult walk workedUnder namedFlow namedRatio noRoom outcome whole twoPlaces listed refusedLine ratioLine endLine listing sixPlaces titleLine headLine rowLine sumLine noSheetLine sheet recordsIn anyFilled anyOther toNew toOld
 computing = tt
