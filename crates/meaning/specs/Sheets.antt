@@ -184,13 +184,15 @@ insteadTable =
     row (sheet pond 1 2) (bytes "REFUSED 17 0\n") ∷
     row (sheet creek 2 3) (bytes "REFUSED 17 0\n") ∷
     row (sheet creek 1 3) (bytes "REFUSED 17 0\n") ∷
-    -- a refused deck has its own line, whatever block is named: 16 without ZZ, 5 at a second BA; 2, a byte too many
+    -- a refused deck has its own line, whatever block is named: 16 without ZZ, 5 at a second BA; 4 in a deck of the most bytes that one may have,
+    -- and 2 with one byte more
     row (sheet (bytes "*FREE\nIT 60,,,2\nKK A\nQI 1\n") 9 9) (bytes "REFUSED 16 0\n") ∷
     row (sheet (basin (bytes "BA 1\n")) 1 1) (bytes "REFUSED 5 6\n") ∷
-    row (sheet (replicate 60_001 10) 1 1) (bytes "REFUSED 2 0\n") ∷
+    row (sheet (bytes "X\n" ++ replicate 59_998 10) 1 1) (bytes "REFUSED 4 1\n") ∷
+    row (sheet (bytes "X\n" ++ replicate 59_999 10) 1 1) (bytes "REFUSED 2 0\n") ∷
     []
 
 pub instead : Agree insteadTable
 unfolding computing
 instead =
-    (refl, (refl, (refl, (refl, (refl, (refl, (refl, (refl, (refl, (refl, (refl, tt)))))))))))
+    (refl, (refl, (refl, (refl, (refl, (refl, (refl, (refl, (refl, (refl, (refl, (refl, tt))))))))))))
