@@ -34,9 +34,10 @@ ratio-at-requires c κs =
 shown : (c : tie.After-under) → let f = c .before .before .before .before .before .before .before .before .before in Shown (place f) (f .find-block .result) (f .find-block .last .1 .1 .0) (f .before .before .before .before .args .ratio - 1) (c .before .before .ratio-at .result)
 shown c =
     let f = c .before .before .before .before .before .before .before .before .before in
+    let own : c .before .before .before .before2 .result ≡ f .before .before .before .before .args .ratio - 1 = omega (arith, c .before .before .before .before2 .ensures) in
     let x = f .find-block .result in
     shown-there x (f .find-block .last .1 .1 .0) (place f) (f .find-block .ensures) (c .before .before .before .before .before .if1 .taken) _ _
-    (c .before .before .ratio-at .ensures ∙ ap (λ (k : ℕ). getD (ratiosIs (x .time .ratios)) k 100) (c .before .before .before .before2 .ensures))
+    (c .before .before .ratio-at .ensures ∙ ap (λ (k : ℕ). getD (ratiosIs (x .time .ratios)) k 100) own)
 
 write-sheet-requires : tie.Need-write-sheet-requires
 write-sheet-requires c κs =
