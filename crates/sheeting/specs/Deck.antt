@@ -51,7 +51,7 @@ few-whole : (rs : List ℕ) → length rs ≤ mostRatios → length (orWhole rs)
 few-whole [] h = omega arith
 few-whole (r ∷ rs) h = h
 
-some-whole : (rs : List ℕ) → 0 < length (orWhole rs)
+pub some-whole : (rs : List ℕ) → 0 < length (orWhole rs)
 some-whole [] = omega arith
 some-whole (r ∷ rs) = omega arith
 
@@ -99,7 +99,7 @@ number-by false named count e few some = let other = eqb-false named 0 e in (pos
     positive zero none = absurd (none refl)
     positive (suc n) none = omega arith
 
-number-within : (named count : ℕ) → named ≤ count → 0 < count → (0 < numberOf named count) × (numberOf named count ≤ count)
+pub number-within : (named count : ℕ) → named ≤ count → 0 < count → (0 < numberOf named count) × (numberOf named count ≤ count)
 number-within named count = number-by (named =? 0) named count refl
 
 module _ (deck : List ℕ) (named ratio : ℕ) where

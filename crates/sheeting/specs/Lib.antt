@@ -3,3 +3,4 @@ pub mod Sizes
 pub mod Texts
 pub mod Columns
 pub mod Deck
+pub mod Ordinates
