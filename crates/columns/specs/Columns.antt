@@ -2,14 +2,13 @@
 --     ColumnsAre       rain, loss and excess by interval, and the sums by ordinate
 --     block-rain, block-excess, block-loss, block-sums    each of them, in the words in which the functions of water promise it
 --     rains-made, ..   and where they made it
-use Prim.Native.Nat.{ℕ, suc, _+_, _-_, _*_, _≤_, _<_}
+use Prim.Native.Nat.{ℕ, suc, _-_, _*_, _≤_}
 use mathlib.Core.Path.{_≡_, refl, sym, ap, _∙_}
 use mathlib.Core.List.{List, [], _∷_}
 use native.Mathlib.Omega.{arith}
 use lib.ListN.{length, getD, List·getD-eq-default}
 use lib.Seq.{ext-getD}
 use Rattle.sequences.specs.Sums.{length-listFrom, getD-list, listFrom-same}
-use Rattle.meaning.specs.Words.{if_then_else_}
 use Rattle.meaning.specs.Records.{PB}
 use Rattle.meaning.specs.Water.{tenThousandth, listFrom, rainOf, cutOf, unfilledAfter, lossesOf, excessOf, runoffOf, ordinate}
 use Rattle.meaning.specs.Blocks.{Time, Block, isGiven, cardOf, stormTotal, stormRain, rain, loss, excess, listedRain, initialLoss, uniformLoss, rainValues, unitOrdinates}

@@ -73,7 +73,7 @@ module _ (τ : Time) (rss : List (List Result)) (f : Fitting τ rss) where
   small-at (r ∷ rs) h zero = h 0
   small-at (r ∷ rs) h (suc k) = small-at rs (λ (j : ℕ). h (suc j)) k
 
-  fitting-few : Few (τ .listed) (blockCount rss)
+  pub fitting-few : Few (τ .listed) (blockCount rss)
   fitting-few = record { blocks-few = f .few; ratios-few = few-whole (τ .listed) (f .time .few-ratios); small = small-at (τ .listed) (f .time .small-ratios) }
 
   enough : noRoom 0 0 (τ .ordinates) (blockCount rss) (length rss) lentRoom ≡ false

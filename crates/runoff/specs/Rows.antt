@@ -5,7 +5,7 @@
 --     rows-none, rows-dry, rows-more    before the first one, past one without excess, and past one that is spread
 --     sheet-order     a column's sum is the ordinate; rows-all: of all ordinates
 use Prim.Native.Nat.{ℕ, _+_, _-_, _*_, _≤_, _<_, _^_}
-use mathlib.Core.Path.{_≡_, refl, sym, ap, _∙_}
+use mathlib.Core.Path.{_≡_, sym, ap, _∙_}
 use mathlib.Core.Logic.{⊎-elim}
 use mathlib.Core.List.{List, [], _++_}
 use native.Mathlib.Nat.{mul-le-mul, zero-mul, mul-zero}

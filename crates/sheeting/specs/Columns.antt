@@ -1,16 +1,16 @@
 -- The columns of a runoff block that was read may be ruled and printed, and what is printed of them are the tables of its sheet.
-use Prim.Native.Nat.{ℕ, _+_, _-_, _≤_}
+use Prim.Native.Nat.{ℕ, _+_, _-_}
 use mathlib.Core.Path.{_≡_, sym, ap, subst, _∙_}
 use mathlib.Core.List.{List, _++_, append-assoc}
 use native.Mathlib.Omega.{arith}
-use lib.ListN.{length, getD}
+use lib.ListN.{length}
 use Rattle.sequences.specs.Bounds.{AllUpTo}
 use Rattle.sequences.specs.Sums.{length-listFrom}
 use Rattle.meaning.specs.Water.{rainOf}
-use Rattle.meaning.specs.Blocks.{Time, Block, rain, loss, excess, rainValues, unitOrdinates}
+use Rattle.meaning.specs.Blocks.{Time, Block, rain, rainValues, unitOrdinates}
 use Rattle.meaning.specs.Sheet.{Sheet, Units, Customary, sheetOf, columnSum, columnSums, titleLine, tableText, tableOf}
 use Rattle.storms.specs.Rains.{rain-up}
-use Rattle.excess.specs.Storms.{mostExcess, stormFall, fall-up}
+use Rattle.excess.specs.Storms.{mostExcess, fall-up}
 use Rattle.excess.specs.Balance.{block-loss-and-excess}
 use Rattle.runoff.specs.Storm.{StormWithin}
 use Rattle.stack.specs.Kinds.{blockStorm}

@@ -2,33 +2,34 @@
 --     refused-sheet    where the run is refused, so is the sheet
 --     accepted-sheet   where it is accepted, the sheet is that of the block of the number, where it is found
 --     sheet-accepted, sheet-refused    the same of the engine's answer
-use Prim.Native.Nat.{ℕ, zero, suc, _-_, _*_, _≤_, _<_}
+use Prim.Native.Nat.{ℕ, zero, suc, _-_, _≤_, _<_}
 use mathlib.Core.Path.{_≡_, refl, sym, ap, _∙_}
 use mathlib.Core.Bool.{Bool, true, false, _||_}
-use mathlib.Core.List.{List, [], _∷_}
+use mathlib.Core.List.{List, []}
 use native.Mathlib.Nat.{mul-le-mul}
 use native.Mathlib.Omega.{arith}
 use borrow.Author.Tests.{le-ltb, ltb-false, eqb-false}
-use lib.ListN.{length, getD}
+use lib.ListN.{length}
 use Rattle.sequences.specs.Choices.{both-fail}
 use Rattle.meaning.specs.Words.{_=?_, _<?_, if_then_else_}
 use Rattle.meaning.specs.Lines.{linesOf}
 use Rattle.meaning.specs.Fields.{Fixed}
-use Rattle.meaning.specs.Blocks.{Time, Block, orWhole, ratioAt, under, opened}
-use Rattle.meaning.specs.Results.{Result, blocksOf}
+use Rattle.meaning.specs.Blocks.{Time}
+use Rattle.meaning.specs.Results.{Result}
 use Rattle.meaning.specs.Records.{mostOrdinates}
-use Rattle.meaning.specs.Run.{BeforeTime, Worked, Stopped, Done, worked, placeOf, namedRatio, blockCount, recordBytes, Lent, Answer, Accepted, Refused, Outcome, refused, accepted, noRoom, settled, outcome, workSize, deckSize}
+use Rattle.meaning.specs.Run.{BeforeTime, Worked, Stopped, Done, worked, namedRatio, blockCount, recordBytes, Lent, Answer, Accepted, Refused, Outcome, refused, accepted, noRoom, settled, outcome, workSize, deckSize}
 use Rattle.meaning.specs.Listing.{refusedLine}
-use Rattle.meaning.specs.Sheet.{namedBlock, sheetText, sheetBy, sheet}
+use Rattle.meaning.specs.Sheet.{sheetBy, sheet}
 use Rattle.answers.specs.declared.Answer as engine
 use Rattle.answers.specs.declared.Answer.the-variants as answer
 use Rattle.answers.specs.Answers.{answerIs, outcomeIs}
+use Rattle.passes.specs.Together.{some-ratio}
 use Rattle.network.specs.Answers.{passed-all}
 use Rattle.network.specs.WorkedBlocks.{done-as-said, as-many-under}
 use Rattle.listing.specs.Sizes.{mostRatios, recordsSize}
 use Rattle.listing.specs.Fitting.{Fitting, done-fits}
-use Rattle.listing.specs.Printed.{lentRoom}
-use Rattle.finding.specs.Place.{At, blockAt}
+use Rattle.listing.specs.Printed.{lentRoom, fitting-few}
+use Rattle.finding.specs.Place.{blockAt}
 use Rattle.finding.specs.Said.{block-done}
 use Rattle.sheeting.specs.Texts.{numberOf, sheetAt}
 
@@ -47,20 +48,11 @@ ratiosIn (Accepted nq blocks ratios) = ratios
 ratiosIn (Refused number line) = 0
 
 -- ROOM ENOUGH: 17 is then a matter of the numbers that are named
-few-whole : (rs : List ℕ) → length rs ≤ mostRatios → length (orWhole rs) ≤ mostRatios
-few-whole [] h = omega arith
-few-whole (r ∷ rs) h = h
-
-pub some-whole : (rs : List ℕ) → 0 < length (orWhole rs)
-some-whole [] = omega arith
-some-whole (r ∷ rs) = omega arith
-
 module _ (named ratio : ℕ) (τ : Time) (rss : List (List Result)) (f : Fitting τ rss) where
   room-named : noRoom named ratio (τ .ordinates) (blockCount rss) (length rss) lentRoom ≡ ((blockCount rss <? named) || (length rss <? ratio))
   unfolding noRoom
   room-named =
-      let few = few-whole (τ .listed) (f .time .few-ratios) in
-      let nine : length rss ≤ mostRatios = omega (arith, few, f .ratios) in
+      let nine : length rss ≤ mostRatios = omega (arith, fitting-few τ rss f .ratios-few, f .ratios) in
       let lots : recordBytes (blockCount rss) (length rss) ≤ recordsSize = omega (arith, mul-le-mul (f .few) nine) in
       rw (le-ltb mostOrdinates (τ .ordinates) (f .time .few-ordinates), le-ltb recordsSize (recordBytes (blockCount rss) (length rss)) lots)
 
@@ -109,7 +101,7 @@ module _ (deck : List ℕ) (named ratio : ℕ) where
   done-sheet τ rss done fits =
       let f = done-fits deck done in
       let apart = both-fail (blockCount rss <? named) (length rss <? ratio) fits in
-      let many : 0 < length rss = omega (arith, f .ratios, some-whole (τ .listed)) in
+      let many : 0 < length rss = omega (arith, f .ratios, some-ratio τ) in
       let block = number-within named (blockCount rss) (ltb-false (blockCount rss) named (apart .0)) (f .some) in
       let place = number-within ratio (length rss) (ltb-false (length rss) ratio (apart .1)) many in
       let at : numberOf ratio (length rss) - 1 < length rss = omega (arith, place .0, place .1) in

@@ -1,7 +1,7 @@
 -- The sums of a sheet are what the run leaves: the ordinates of the named block under the named ratio, of every accepted run that names a runoff block.
 --     shownBlock, shownTime    the block that such a run names, and the time control with the ratio that it names in force
 --     run-shows                its ordinates are the column sums of the block's sheet, and zeros behind them
-use Prim.Native.Nat.{ℕ, zero, suc, _-_, _≤_, _<_}
+use Prim.Native.Nat.{ℕ, zero, suc, _-_, _<_}
 use mathlib.Core.Path.{_≡_, refl, sym, ap, subst, _∙_}
 use mathlib.Core.List.{List, [], _∷_, _++_, map}
 use native.Mathlib.Omega.{arith}
@@ -11,14 +11,14 @@ use Rattle.meaning.specs.Blocks.{Time, ratiosOf, ratioAt, under, Block, Basin, 
 use Rattle.meaning.specs.Results.{Result, blocksOf}
 use Rattle.meaning.specs.Run.{heldAfter, Lent, Outcome, placeOf, namedRatio, flowsOf, namedFlow, outcome}
 use Rattle.meaning.specs.Sheet.{sheetOf, columnSums, namedBlock}
-use Rattle.passes.specs.Together.{ratio-at}
+use Rattle.passes.specs.Together.{some-ratio, ratio-at}
 use Rattle.network.specs.Steps.{closedFrom}
 use Rattle.network.specs.Order.{Enough}
 use Rattle.network.specs.Answers.{enough-room, Passed, passed-accepted}
 use Rattle.network.specs.WorkedBlocks.{closedUnder, DoneAs, done-as-said, as-many-under, count-blocks}
 use Rattle.listing.specs.Fitting.{done-fits}
 use Rattle.columns.specs.Columns.{block-sums}
-use Rattle.sheeting.specs.Deck.{number-within, some-whole}
+use Rattle.sheeting.specs.Deck.{number-within}
 
 -- a runoff block holds its runoff, whatever is held before it
 basin-flow : (τ : Time) (held : List Held) (bs : List Block) (i : ℕ) → i < length bs → kindOf (getD (blocksOf (closedFrom τ held bs)) i (opened [])) ≡ Basin
@@ -70,7 +70,7 @@ module _ (deck : List ℕ) (named ratio : ℕ) (lent : Lent) {nq blocks ratios :
 
   listed : place < length results
   listed =
-      let number = number-within ratio (length results) (omega (arith, enough .ratio-listed, many)) (omega (arith, many, some-whole (time .listed))) in
+      let number = number-within ratio (length results) (omega (arith, enough .ratio-listed, many)) (omega (arith, many, some-ratio time)) in
       omega (arith, number .0, number .1)
 
   abbrev run : List Result

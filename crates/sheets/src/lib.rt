@@ -19,10 +19,8 @@ const ORDINATES: usize = 300;
 
 pub const TABLE: usize = cells::CELL * (ORDINATES + 4) * (ORDINATES + 2);
 
-// The bytes that the title has room in where the name has at most six, and those of the line of a block that has no sheet.
+// The bytes that the title has room in where the name has at most six.
 pub const TITLE: usize = 46;
-
-pub const NO_SHEET: usize = 30;
 
 // The measure's name, and the comma behind it.
 fn write_measure(out: &mut [u8], at: usize, measure: Measure) -> usize

@@ -1,10 +1,10 @@
 -- `columns::fill_columns` meets its contract: the storm, the unit ordinates and the rain listed are the block's own, and so is what is made of them.
-use Prim.Native.Nat.{ℕ, _≤_}
+use Prim.Native.Nat.{ℕ}
 use mathlib.Core.Path.{_≡_, sym, ap, subst}
 use mathlib.Core.List.{List, []}
 use native.Mathlib.Omega.{arith}
 use borrow.Author.Needs.{needs}
-use lib.ListN.{length, getD}
+use lib.ListN.{length}
 use Rattle.meaning.specs.Records.{UI}
 use Rattle.meaning.specs.Blocks as blocks
 use Rattle.meaning.specs.Blocks.{Block, rain, excess}
@@ -75,19 +75,22 @@ find-losses-requires c κs =
 
 runoff-into-requires : tie.Need-runoff-into-requires
 runoff-into-requires c κs =
-    let s = c .before .before .before .before .before .before .before .before .before .before .before .before .before .before .before .before .before .before .before .before .before .before .before in
-    subst (StormWithin _ _ _) (sym (s .pre .1 .3)) (within (c .before .before .before .before .before .before .before .before .before .before .before .before .before .before .before))
+    let got = c .before .before .before .before .before .before .before .before .before .before .before .before .before .before .before in
+    subst (StormWithin _ _ _) (sym (got .before .before .before .before .before .before .before .before .pre .1 .3)) (within got)
 
 returns : tie.Need-returns
 returns c = λ name.
-    let s = c .before .before .before .before .before .before .before .before .before .before .before .before .before .before .before .before .before .before .before .before .before .before .before .before .before .before in
-    let got = c .before .before .before .before .before .before .before .before .before .before .before .before .before .before .before .before .before .before in
-    let rains = rains-are got name (s .pre .1 .0) (c .before .before .before .before .before .before .before .before .before .before .before .before .before .before .before .before .storm-rain .ensures) in
-    let excesses = excesses-are got name (s .pre .1 .2) (c .before .before .before .before .before .before .before .before .before .before .before .before .storm-excess .ensures) in
+    let lost = c .before .before .before .before .before .before in
+    let left = lost .before .before .before .before .before .before in
+    let fell = left .before .before .before .before in
+    let got = fell .before .before in
+    let s = got .before .before .before .before .before .before .before .before in
+    let rains = rains-are got name (s .pre .1 .0) (fell .storm-rain .ensures) in
+    let excesses = excesses-are got name (s .pre .1 .2) (left .storm-excess .ensures) in
     record {
       rains-are = rains;
       excesses-are = excesses;
-      losses-are = losses-made (τ got) (block got name) rains excesses (s .pre .1 .1) (c .before .before .before .before .before .before .find-losses .ensures);
+      losses-are = losses-made (τ got) (block got name) rains excesses (s .pre .1 .1) (lost .find-losses .ensures);
       sums-are =
           sums-made (τ got) (block got name) (got .before .before .storm-of .result) (got .before .values .result .now) (got .values2 .result .now)
           (got .before .before .storm-of .ensures name) (got .before .values .ensures name) (got .values2 .ensures name) (s .pre .1 .3) (c .before .before .runoff-into .ensures);

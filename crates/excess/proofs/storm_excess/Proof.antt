@@ -1,5 +1,5 @@
 -- `excess::storm_excess` meets its contract, arm by arm; a total that is given is within its limit.
-use mathlib.Core.Path.{_≡_, refl, _∙_}
+use mathlib.Core.Path.{refl, _∙_}
 use borrow.Author.Needs.{needs}
 use Rattle.excess.specs.Storms.{given-within}
 use Rattle.excess.proofs.storm_excess.Statement.{statement}

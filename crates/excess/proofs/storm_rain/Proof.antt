@@ -1,5 +1,5 @@
 -- `excess::storm_rain` meets its contract, arm by arm; what is listed adds up to no more than may be cut by a ratio, and a total that is given is within its limit.
-use mathlib.Core.Path.{_≡_, refl, _∙_}
+use mathlib.Core.Path.{refl, _∙_}
 use borrow.Author.Needs.{needs}
 use lib.ListN.{length}
 use Rattle.storms.specs.Rains.{rain-sum}
@@ -20,7 +20,8 @@ rate-total-requires c κs =
 
 returns : tie.Need-returns
 returns c =
-    rw (c .before .before .before .before .before .before .before .before .enum-told .given .1) (c .before .before .rate .ensures ∙ rw (c .before .before .before .before .before .before .list-rain .ensures .0) refl)
+    let listed = c .before .before .before .before .before .before in
+    rw (listed .before .before .enum-told .given .1) (c .before .before .rate .ensures ∙ rw (listed .list-rain .ensures .0) refl)
 
 returns-2 : tie.Need-returns-2
 returns-2 c = rw (c .before .before .before .before .before .total .given .1) (c .before .before .rate-total .ensures)

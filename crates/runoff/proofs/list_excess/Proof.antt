@@ -1,6 +1,5 @@
 -- `runoff::list_excess` meets its contract: the excess is made, and then taken out.
 use mathlib.Core.Path.{sym, ap, _∙_}
-use mathlib.Core.List.{List}
 use Prim.Native.Nat.{ℕ}
 use borrow.Author.Needs.{needs}
 use lib.ListN.{length, replicate}

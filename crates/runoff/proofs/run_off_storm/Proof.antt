@@ -18,58 +18,72 @@ list-excess-requires : tie.Need-list-excess-requires
 list-excess-requires c κs =
     let s = c .before .before .before .before .before .before .before in
     let least = c .before .before .smaller .ensures in
-    ((simp length-take (omega (arith, least, s .pre .0 .intervalsUp, s .pre .1)), simp length-take (omega (arith, s .pre .0 .intervalsUp)), s .pre .0 .ratioUp), (s .pre .0 .rainsUp, s .pre .0 .totalUp))
+    let few = s .pre .0 .intervalsUp in
+    ((simp length-take (omega (arith, least, few, s .pre .1)), simp length-take (omega (arith, few)), s .pre .0 .ratioUp), (s .pre .0 .rainsUp, s .pre .0 .totalUp))
 
 -- WHERE THE SHEET BEGINS: the excess stands in words of its own, and there are no ordinates yet
 abbrev Begun : Type 0
 Begun = tie.After-run-off-arg2
 
+-- back from there: the rest zeroed, the excess listed, the intervals counted, the entry
+abbrev zeroed : Begun → tie.After-zero-words
+zeroed c = c .before .before .before .before
+
+abbrev listedAt : Begun → tie.After-list-excess
+listedAt c = c .before .before .before .before .before .before .before .before .before .before
+
+abbrev counted : Begun → tie.After-smaller
+counted c = listedAt c .before .before .before
+
+abbrev entry : Begun → tie.Start
+entry c = counted c .before .before .before .before .before
+
 module _ (c : Begun) where
   abbrev q : List ℕ
-  q = c .before .before .before .before .before .before .before .before .before .before .before .before .before .before .before .before .before .before .args .q .now
+  q = entry c .args .q .now
 
   abbrev rains : List ℕ
-  rains = c .before .before .before .before .before .before .before .before .before .before .before .before .before .before .before .before .before .before .args .rains .now
+  rains = entry c .args .rains .now
 
   abbrev words : List ℕ
-  words = c .before .before .before .before .before .before .before .before .before .before .before .before .before .before .before .before .before .before .args .words .now
+  words = entry c .args .words .now
 
   abbrev storm : Storm
-  storm = c .before .before .before .before .before .before .before .before .before .before .before .before .before .before .before .before .before .before .args .storm
+  storm = entry c .args .storm
 
   abbrev listed : ℕ
-  listed = c .before .before .before .before .before .before .before .before .before .before .before .before .before .smaller .result
+  listed = counted c .smaller .result
 
   -- as many intervals are looked at as have a rain listed
   least : listed ≡ min (length rains) (length q)
-  least = omega (arith, c .before .before .before .before .before .before .before .before .before .before .before .before .before .smaller .ensures)
+  least = omega (arith, counted c .smaller .ensures)
 
   abbrev excess : List ℕ
-  excess = c .before .before .before .before .before .before .before .before .before .before .list-excess .last .1 .1 .1 .0
+  excess = listedAt c .list-excess .last .1 .1 .1 .0
 
   abbrev front : List ℕ
-  front = c .before .before .before .before .before .before .before .before .before .before .list-excess .last .0
+  front = listedAt c .list-excess .last .0
 
   abbrev back : List ℕ
-  back = c .before .before .before .before .zero-words .last .0
+  back = zeroed c .zero-words .last .0
 
   within : listed ≤ length q
   within = omega (arith, least)
 
   made : excess ≡ stormExcess storm (rainOf rains listed)
-  made = c .before .before .before .before .before .before .before .before .before .before .list-excess .ensures .0 ∙ ap (λ (n : ℕ). stormExcess storm (rainOf rains n)) (length-take-le listed q within)
+  made = listedAt c .list-excess .ensures .0 ∙ ap (λ (n : ℕ). stormExcess storm (rainOf rains n)) (length-take-le listed q within)
 
   taken : take listed (excess ++ drop listed words) ≡ excess
   taken = take-at excess (drop listed words) listed (length-listed rains excess storm listed made)
 
   long : length (front ++ drop listed q) ≡ length q
   long =
-      let first : length front ≡ listed = ap length (c .before .before .before .before .before .before .before .before .before .before .list-excess .ensures .1) ∙ length-replicate (length (take listed q)) 0 ∙ length-take-le listed q within in
+      let first : length front ≡ listed = ap length (listedAt c .list-excess .ensures .1) ∙ length-replicate (length (take listed q)) 0 ∙ length-take-le listed q within in
       simp (length-append, length-drop) (omega (arith, first, within))
 
   empty : put listed (length (front ++ drop listed q) - listed) (front ++ drop listed q) back ≡ replicate (length q) 0
   empty =
-      zeros-through q front back listed within (c .before .before .before .before .before .before .before .before .before .before .list-excess .ensures .1) (c .before .before .before .before .zero-words .ensures)
+      zeros-through q front back listed within (listedAt c .list-excess .ensures .1) (zeroed c .zero-words .ensures)
       ∙ ap (λ (n : ℕ). replicate n 0) long
 
 slice-aggregate-run-off : tie.Need-slice-aggregate-run-off
@@ -77,7 +91,7 @@ slice-aggregate-run-off c = sym (ap length (taken c) ∙ length-listed (rains c)
 
 run-off-requires : tie.Need-run-off-requires
 run-off-requires c κs =
-    let s = c .before .before .before .before .before .before .before .before .before .before .before .before .before .before .before .before .before .before in
+    let s = entry c in
     let same : length (put (listed c) (length (front c ++ drop (listed c) (q c)) - listed c) (front c ++ drop (listed c) (q c)) (back c)) ≡ length (q c) =
     ap length (empty c) ∙ length-replicate (length (q c)) 0 in
     let up = listed-up (rains c) (excess c) (storm c) (listed c) (made c) (s .pre .0 .totalUp) (s .pre .0 .ratioUp) (s .pre .0 .rainsUp) in (
@@ -91,7 +105,7 @@ returns c =
     let same = ap length (empty begun) ∙ length-replicate (length (q begun)) 0 in
     c .before .before .run-off .ensures
     ∙ rw (taken begun, same)
-    (listed-runoff (rains begun) (excess begun) (storm begun) (listed begun) (made begun) (length (q begun)) (least begun) (c .before .before .before .before .before .before .before .before .before .before .before .before .before .before .before .before .before .before .before .before .before .args .units .now))
+    (listed-runoff (rains begun) (excess begun) (storm begun) (listed begun) (made begun) (length (q begun)) (least begun) (entry begun .args .units .now))
 
 pub run-off-storm-spec : {M : Type 1} → statement M
 run-off-storm-spec =

@@ -1,6 +1,6 @@
 -- `runoff::take_out` meets its contract: a loop that rewrites two lists from the front, the one with what the other still holds, the other with zeros.
 use Prim.Native.Nat.{ℕ, _-_, _≤_}
-use mathlib.Core.Path.{_≡_, refl, sym, _∙_}
+use mathlib.Core.Path.{refl, sym}
 use native.Mathlib.Omega.{arith}
 use lib.ListN.{length, getD, replicate, length-replicate}
 use Rattle.sequences.specs.Rewriting.{Rewritten, rewritten-none, rewritten-more, rewritten-all}

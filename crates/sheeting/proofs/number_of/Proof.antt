@@ -1,6 +1,5 @@
 -- `sheeting::number_of` meets its contract: the test is that of the definition.
 use mathlib.Core.Path.{refl}
-use borrow.Author.Tests.{eq-eqb, ne-eqb}
 use Rattle.sequences.specs.Choices.{tests, taken, passed}
 use Rattle.sheeting.proofs.number_of.Statement.{statement}
 use Rattle.sheeting.proofs.number_of.Tie as tie

@@ -1,7 +1,7 @@
 -- `sheeting::sheet_block` meets its contract: where the block is there, its sheet is written under the ratio at the place before the number; where it is not, nothing is.
 use Prim.Native.Nat.{ℕ, _-_}
 use mathlib.Core.Path.{_≡_, ap, subst, _∙_}
-use mathlib.Core.List.{List, []}
+use mathlib.Core.List.{List}
 use native.Mathlib.Omega.{arith}
 use borrow.Author.Needs.{needs}
 use lib.ListN.{getD}

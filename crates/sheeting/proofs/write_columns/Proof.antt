@@ -4,11 +4,11 @@ use mathlib.Core.Path.{_≡_, sym, ap, subst, _∙_}
 use mathlib.Core.List.{List}
 use native.Mathlib.Omega.{arith}
 use borrow.Author.Needs.{needs}
-use lib.ListN.{length, take}
+use lib.ListN.{length}
 use lib.Seq.{length-take-le}
 use Rattle.meaning.specs.Records.{UI}
 use Rattle.meaning.specs.Blocks as blocks
-use Rattle.meaning.specs.Blocks.{rainValues, unitOrdinates}
+use Rattle.meaning.specs.Blocks.{Block, rainValues, unitOrdinates}
 use Rattle.blocks.specs.Meant.{timeIs, nameIs}
 use Rattle.blocks.specs.Cards.{blockOf}
 use Rattle.blocks.specs.Values.{values-few}
@@ -27,43 +27,59 @@ use Rattle.sheeting.proofs.write_columns.Tie as tie
 read-within : (τ : blocks.Time) (name cards : List ℕ) → Read τ cards → let b = blockOf name cards in StormWithin (unitOrdinates b) (rainValues b) (blockStorm τ b) (τ .ordinates)
 read-within τ name cards read = storm-read τ (blockOf name cards) (read .time) (read .cards) (values-few UI name cards (omega arith) (read .words .long))
 
+-- a name has six bytes, of which its letters are the first
+short : (s : tie.Start) → s .args .name .letters ≤ length (s .args .name .bytes)
+short s = let six : length (s .args .name .bytes) ≡ 6 = search needs in omega (arith, six, s .pre .1 .1 .0)
+
+-- WHAT WAS READ: the columns filled, and the unit ordinates
+abbrev Got : Type 0
+Got = tie.After-values
+
+abbrev filled : Got → tie.After-fill-columns
+filled c = c .before .before .before .before .before .before .before .before .before .before
+
+abbrev entry : Got → tie.Start
+entry c = filled c .before .before .before .before .before .before .before .before .before .before .before
+
+module _ (c : Got) where
+  abbrev τ : blocks.Time
+  τ = timeIs (entry c .args .time)
+
+  abbrev name : List ℕ
+  name = nameIs (entry c .args .name)
+
+  abbrev block : Block
+  block = blockOf name (entry c .args .cards .now)
+
+  within : StormWithin (unitOrdinates block) (rainValues block) (blockStorm τ block) (τ .ordinates)
+  within = read-within τ name (entry c .args .cards .now) (entry c .pre .0)
+
 array-share-prefix-bytes : tie.Need-array-share-prefix-bytes
-array-share-prefix-bytes c = let s = c .before .before .before .before .before .before .before .before .before .before .before .before .before .before .before .before .before .before .before .before .before .before in let six : length (s .args .name .bytes) ≡ 6 = search needs in omega (arith, six, s .pre .1 .1 .0)
+array-share-prefix-bytes c = short (entry (c .before))
 
 slice-aggregate-write-tables : tie.Need-slice-aggregate-write-tables
-slice-aggregate-write-tables c = sym (length-take-le _ _ (array-share-prefix-bytes (c .before)))
+slice-aggregate-write-tables c = sym (length-take-le _ _ (short (entry (c .before .before))))
 
 write-tables-requires : tie.Need-write-tables-requires
 write-tables-requires c κs =
-    let s = c .before .before .before .before .before .before .before .before .before .before .before .before .before .before .before .before .before .before .before .before .before .before .before .before .before .before .before in
-    let τ = timeIs (s .args .time) in
-    let name = nameIs (s .args .name) in
-    let cards = s .args .cards .now in
-    let b = blockOf name cards in
-    let within = read-within τ name cards (s .pre .0) in
-    let columns = c .before .before .before .before .before .before .before .before .before .before .before .before .before .before .before .before .fill-columns .ensures name in
-    let long = columns-long τ b within columns in
-    let six : length (s .args .name .bytes) ≡ 6 = search needs in
-    let letters : length name ≡ s .args .name .letters = length-take-le (s .args .name .letters) (s .args .name .bytes) (omega (arith, six, s .pre .1 .1 .0)) in (
-      rw (c .before .before .before .before .before .before .values .ensures name) (columns-ruled τ b within columns),
-      (long .0, omega (arith, long .1, s .pre .0 .time .few-ordinates), omega (arith, letters, s .pre .1 .1 .0), s .pre .1 .1 .1),
+    let got = c .before .before .before .before .before .before in
+    let pre = entry got .pre in
+    let columns = filled got .fill-columns .ensures (name got) in
+    let long = columns-long (τ got) (block got) (within got) columns in
+    let letters : length (name got) ≡ entry got .args .name .letters = length-take-le _ _ (short (entry got)) in (
+      rw (got .values .ensures (name got)) (columns-ruled (τ got) (block got) (within got) columns),
+      (long .0, omega (arith, long .1, pre .0 .time .few-ordinates), omega (arith, letters, pre .1 .1 .0), pre .1 .1 .1),
     )
 
 returns : tie.Need-returns
 returns c =
-    let s = c .before .before .before .before .before .before .before .before .before .before .before .before .before .before .before .before .before .before .before .before .before .before .before .before .before .before .before .before .before .before in
-    let τ = timeIs (s .args .time) in
-    let name = nameIs (s .args .name) in
-    let cards = s .args .cards .now in
-    let b = blockOf name cards in
-    let within = read-within τ name cards (s .pre .0) in
-    let fill = c .before .before .before .before .before .before .before .before .before .before .before .before .before .before .before .before .before .before .before .fill-columns in
-    let columns = fill .ensures name in
+    let got = c .before .before .before .before .before .before .before .before .before in
+    let fill = filled got .fill-columns in
     let written = c .before .before .write-tables in
     let text =
-    ap (λ (us : List ℕ). blockText (τ .ratio) name (ruled us (fill .last .0) (fill .last .1 .0) (fill .last .1 .1 .0)) (fill .last .1 .1 .1 .0)) (c .before .before .before .before .before .before .before .before .before .values .ensures name)
-    ∙ columns-text τ b within columns in
-    subst (λ (t : List ℕ). Written (s .args .out .now) 0 t (written .last .0) (written .result)) text (written .ensures)
+    ap (λ (us : List ℕ). blockText (τ got .ratio) (name got) (ruled us (fill .last .0) (fill .last .1 .0) (fill .last .1 .1 .0)) (fill .last .1 .1 .1 .0)) (got .values .ensures (name got))
+    ∙ columns-text (τ got) (block got) (within got) (fill .ensures (name got)) in
+    subst (λ (t : List ℕ). Written (entry got .args .out .now) 0 t (written .last .0) (written .result)) text (written .ensures)
 
 pub write-columns-spec : {M : Type 1} → statement M
 write-columns-spec =

@@ -1,5 +1,5 @@
 -- `sheeting::write_tables` meets its contract: two titles and two tables, one behind another. Each begins where the one before ends, and none is longer than its size.
-use Prim.Native.Nat.{ℕ, _+_, _≤_}
+use Prim.Native.Nat.{_+_, _≤_}
 use native.Mathlib.Omega.{arith}
 use borrow.Author.Needs.{needs}
 use lib.ListN.{length}
