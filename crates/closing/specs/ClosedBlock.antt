@@ -2,17 +2,18 @@
 --     answerBy            the answer, told by the refusal
 --     Closes              the outcome: the answer and the words; and of what is held then, Keeps
 --     closes-by-shape     how it comes about: refused by its shape,
---     closes-by-flow, closes-held     or made and held, and then refused by 13 or not
+--     closes-by-rise, closes-by-flow, closes-held     or made and held, and then refused by 20, by 13 or not
 use Prim.Native.Nat.{ℕ, zero, suc, _+_, _-_, _≤_, _<_}
 use mathlib.Core.Path.{_≡_, refl, sym, ap, subst, _∙_}
+use mathlib.Core.Bool.{true, false}
 use mathlib.Core.List.{List}
 use native.Mathlib.Omega.{arith}
 use borrow.Author.Tests.{lt-ltb, le-ltb}
 use lib.ListN.{length, length-drop}
 use Rattle.meaning.specs.Water.{flowLimit}
-use Rattle.meaning.specs.Blocks.{Time, Block, Kind, kindNumber, kindOf, takes, Held, total}
+use Rattle.meaning.specs.Blocks.{Time, Block, Kind, kindNumber, kindOf, takes, Held, total, overtops}
 use Rattle.meaning.specs.Results.{peakOf}
-use Rattle.meaning.specs.Run.{heldFor, heldAfter, shapeRefusal, flowRefusal}
+use Rattle.meaning.specs.Run.{takenBy, heldFor, heldAfter, shapeRefusal, flowRefusal}
 use Rattle.passes.specs.One.{closingUnder}
 use Rattle.stack.specs.declared.Stack.{Stack}
 use Rattle.stack.specs.View.{view, length-held}
@@ -58,7 +59,7 @@ pub closing-shape : (τ : Time) (b : Block) (held : List Held) (n : ℕ) → (n 
 closing-shape τ b held zero some e = absurd (some refl)
 closing-shape τ b held (suc n) some e = rw e
 
-pub closing-flow : (τ : Time) (b : Block) (held : List Held) → shapeRefusal τ b (length held) ≡ 0 → closingUnder τ b held ≡ flowRefusal (heldFor τ b held)
+pub closing-flow : (τ : Time) (b : Block) (held : List Held) → shapeRefusal τ b (length held) ≡ 0 → closingUnder τ b held ≡ flowRefusal τ b (takenBy b held)
 closing-flow τ b held e = rw e
 
 -- the answer
@@ -114,18 +115,24 @@ module _ (τ : Time) (b : Block) (s : Stack) (w : List ℕ) where
         omega
         (arith, room, takes-by b refl, length-held (τ .ordinates) (next .areas) (next .depth) w′, ap length (makes .held), length-drop (takes b) before)
 
-    pub closes-by-flow : {r : Closed} → flowLimit < peakOf (heldFor τ b before .flow) → r ≡ refusedBlock 13 s → Closes τ b s w r w′
+    pub closes-by-rise : {r : Closed} → overtops τ b (takenBy b before) ≡ true → r ≡ refusedBlock 20 s → Closes τ b s w r w′
     unfolding flowRefusal
-    closes-by-flow high e =
-        let refusal : closingUnder τ b before ≡ 13 = closing-flow τ b before sound ∙ rw (lt-ltb flowLimit (peakOf (heldFor τ b before .flow)) high) in
+    closes-by-rise rises e =
+        let refusal : closingUnder τ b before ≡ 20 = closing-flow τ b before sound ∙ rw rises in
         record { answer = e ∙ answered refusal; words = words-made; keeps = λ z. absurd (omega (arith, ap (λ (r : Closed). r .refusal) e)) }
 
-    pub closes-held : {kind area : ℕ} {summary : Summary} → CardsWithin b → Within before → kind ≡ kindNumber (kindOf b) → area ≡ heldFor τ b before .area
+    pub closes-by-flow : {r : Closed} → overtops τ b (takenBy b before) ≡ false → flowLimit < peakOf (heldFor τ b before .flow) → r ≡ refusedBlock 13 s → Closes τ b s w r w′
+    unfolding flowRefusal
+    closes-by-flow stays high e =
+        let refusal : closingUnder τ b before ≡ 13 = closing-flow τ b before sound ∙ rw (stays, lt-ltb flowLimit (peakOf (heldFor τ b before .flow)) high) in
+        record { answer = e ∙ answered refusal; words = words-made; keeps = λ z. absurd (omega (arith, ap (λ (r : Closed). r .refusal) e)) }
+
+    pub closes-held : {kind area : ℕ} {summary : Summary} → overtops τ b (takenBy b before) ≡ false → CardsWithin b → Within before → kind ≡ kindNumber (kindOf b) → area ≡ heldFor τ b before .area
         → summary ≡ summaryOf (heldFor τ b before .flow) → peakOf (heldFor τ b before .flow) ≤ flowLimit
         → Closes τ b s w (record { refusal = 0; held = next; kind = kind; area = area; summary = summary }) w′
     unfolding flowRefusal
-    closes-held cards flows ek ea es low =
-        let refusal : closingUnder τ b before ≡ 0 = closing-flow τ b before sound ∙ rw (le-ltb flowLimit (peakOf (heldFor τ b before .flow)) low) in
+    closes-held stays cards flows ek ea es low =
+        let refusal : closingUnder τ b before ≡ 0 = closing-flow τ b before sound ∙ rw (stays, le-ltb flowLimit (peakOf (heldFor τ b before .flow)) low) in
         record {
           answer = rw (makes .stack, ek, ea, es) (answered refusal);
           words = words-made;

@@ -6,13 +6,14 @@ use mathlib.Core.Path.{_≡_, refl, ap}
 use mathlib.Core.List.{List}
 use native.Mathlib.Omega.{arith}
 use lib.ListN.{length}
-use Rattle.meaning.specs.Water.{flowLimit}
+use Rattle.meaning.specs.Water.{flowLimit, routedOf}
+use Rattle.meaning.specs.Pool.{pondedOf}
 use Rattle.meaning.specs.Records.{BA}
-use Rattle.meaning.specs.Blocks.{Time, Block, Kind, NoKind, Basin, Inflow, Confluence, Reach, kindOf, takes, Held, total, combined, reachK, reachSteps, reachX}
+use Rattle.meaning.specs.Blocks.{Time, Block, Kind, NoKind, Basin, Inflow, Confluence, Reach, Pond, kindOf, takes, Held, total, combined, reachK, reachSteps, reachX, pondRows}
 use Rattle.meaning.specs.Results.{peakOf}
 use Rattle.meaning.specs.Run.{heldFor, heldAfter, shapeRefusal}
-use Rattle.stack.specs.Limits.{Within, within-drop, area-added, area-routed}
-use Rattle.stack.specs.Kinds.{after-basin, after-inflow, after-confluence, after-reach}
+use Rattle.stack.specs.Limits.{Within, within-drop, area-added, area-changed}
+use Rattle.stack.specs.Kinds.{after-basin, after-inflow, after-confluence, after-reach, after-pond}
 use Rattle.summary.specs.Peaks.{all-below-peak}
 use Rattle.shaping.specs.Limits.{CardsWithin}
 use Rattle.shaping.specs.Shapes.{Shaped, none-refused}
@@ -29,7 +30,8 @@ module _ (τ : Time) (b : Block) (held : List Held) (cards : CardsWithin b) (sou
   area-by Basin e = omega (arith, ap areaOf (after-basin τ b held e), cards BA .high 0)
   area-by Inflow e = omega (arith, ap areaOf (after-inflow τ b held e), cards BA .high 0)
   area-by Confluence e = omega (arith, ap areaOf (after-confluence τ b held e), area-added (combined b) held)
-  area-by Reach e = omega (arith, ap areaOf (after-reach τ b held e), area-routed (reachSteps b) (τ .minutes) (reachK b) (reachX b) held)
+  area-by Reach e = omega (arith, ap areaOf (after-reach τ b held e), area-changed (routedOf (reachSteps b) (τ .minutes) (reachK b) (reachX b)) held)
+  area-by Pond e = omega (arith, ap areaOf (after-pond τ b held e), area-changed (pondedOf (τ .minutes) (pondRows b)) held)
 
   pub area-after : total (heldAfter τ b held) .area ≤ total held .area + 999_999
   area-after = area-by (kindOf b) refl

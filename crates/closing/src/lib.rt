@@ -1,4 +1,4 @@
-// Where KK or ZZ closes a block: its hydrograph is made and held, and its flows are looked at.
+// Where KK or ZZ closes a block: its hydrograph is made and held, and the flows are looked at, of what it takes (20) and of what it makes (13).
 ghost use mathlib.Core.Path.{_≡_};
 ghost use mathlib.Core.List.{List};
 ghost use Prim.Native.Nat.{ℕ};
@@ -35,7 +35,11 @@ pub fn close_block(work: &mut [u64], held: Stack, time: Time, cards: &[u64]) -> 
         return refuse(shape.refusal, held);
     }
     let kind = shape.kind;
-    let next = making::make(work, held, time, cards, kind);
+    let made = making::make(work, held, time, cards, kind);
+    if made.overtopped {
+        return refuse(20, held);
+    }
+    let next = made.held;
     let summary = telling::summarize_last(work, next, time.ordinates);
     if summary.interval == 0 {
         return refuse(13, held);

@@ -14,7 +14,7 @@ use Rattle.meaning.specs.Lines.{lf, blank}
 use Rattle.meaning.specs.Fields.{trimEnd, isBlank}
 use Rattle.meaning.specs.Records.{anyBlank, mostOrdinates}
 use Rattle.meaning.specs.Water.{flowLimit, sumOf}
-use Rattle.meaning.specs.Blocks.{Kind, NoKind, Basin, Inflow, Confluence, Reach, kindNumber, kindOf}
+use Rattle.meaning.specs.Blocks.{Kind, NoKind, Basin, Inflow, Confluence, Reach, Pond, kindNumber, kindOf}
 use Rattle.meaning.specs.Results.{Result, peakOf, intervalOf, blanksAfter, recordOf}
 use Rattle.meaning.specs.Listing.{whole, twoPlaces, rounded, listed}
 use Rattle.sequences.specs.Parts.{part}
@@ -55,6 +55,7 @@ kind-below Basin = omega arith
 kind-below Inflow = omega arith
 kind-below Confluence = omega arith
 kind-below Reach = omega arith
+kind-below Pond = omega arith
 
 regroup : (n a b c d e f : List ℕ) → n ++ (a ++ b ++ c ++ d ++ e ++ f) ≡ n ++ a ++ b ++ c ++ d ++ e ++ f
 regroup n a b c d e f = simp append-assoc

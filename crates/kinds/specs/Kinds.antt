@@ -20,7 +20,7 @@ use Rattle.blocks.specs.Cards.{blockOf}
 use Rattle.blocks.specs.Values.{block-long}
 use Rattle.kinds.specs.Masks.{maskOf, masks, among-append, agrees-mask}
 use Rattle.kinds.specs.declared.Kind.{Kind}
-use Rattle.kinds.specs.declared.Kind.the-variants.{NoKind, Basin, Inflow, Confluence, Reach}
+use Rattle.kinds.specs.declared.Kind.the-variants.{NoKind, Basin, Inflow, Confluence, Reach, Pond}
 
 abbrev pub kindMeant : Kind → blocks.Kind
 kindMeant NoKind = blocks.NoKind
@@ -28,6 +28,7 @@ kindMeant Basin = blocks.Basin
 kindMeant Inflow = blocks.Inflow
 kindMeant Confluence = blocks.Confluence
 kindMeant Reach = blocks.Reach
+kindMeant Pond = blocks.Pond
 
 -- no two kinds mean the same
 meantBack : blocks.Kind → Kind
@@ -36,6 +37,7 @@ meantBack blocks.Basin = Basin
 meantBack blocks.Inflow = Inflow
 meantBack blocks.Confluence = Confluence
 meantBack blocks.Reach = Reach
+meantBack blocks.Pond = Pond
 
 meant-back : (k : Kind) → k ≡ meantBack (kindMeant k)
 unfolding meantBack
@@ -44,6 +46,7 @@ meant-back Basin = refl
 meant-back Inflow = refl
 meant-back Confluence = refl
 meant-back Reach = refl
+meant-back Pond = refl
 
 pub kind-told : (x y : Kind) → kindMeant x ≡ kindMeant y → x ≡ y
 kind-told x y e = meant-back x ∙ rw e (sym (meant-back y))

@@ -8,13 +8,14 @@ ghost use Rattle.blocks.specs.Cards.{blockOf, Readable};
 ghost use Rattle.kinds.specs.Masks.{bitOf, maskOf};
 ghost use Rattle.kinds.specs.Kinds.{kindMeant};
 
-// The four kinds of a block, or none.
+// The kinds of a block, or none.
 pub enum Kind {
     NoKind,
     Basin,
     Inflow,
     Confluence,
     Reach,
+    Pond,
 }
 
 // 1 where the record is there, else 0.
@@ -42,7 +43,7 @@ fn mask_of(cards: &[u64]) -> u64
     mask
 }
 
-// The kind of the block, from the records that are there: BA 1, PI 2, LU 4, UI 8, QI 16, HC 32, RM 64, PB 128.
+// The kind of the block, from the records that are there: BA 1, PI 2, LU 4, UI 8, QI 16, HC 32, RM 64, PB 128, RS 256, SV 512, SQ 1024.
 pub fn kind_of(cards: &[u64]) -> Kind
     requires { ⌜ Readable (now cards) ⌝ }
     ensures { λ r. ⌜ ((name : List ℕ) → kindMeant r ≡ kindOf (blockOf name (now (cards .entry)))) ⌝ }
@@ -54,6 +55,7 @@ pub fn kind_of(cards: &[u64]) -> Kind
         17 => Kind::Inflow,
         32 => Kind::Confluence,
         64 => Kind::Reach,
+        1792 => Kind::Pond,
         _ => Kind::NoKind,
     }
 }

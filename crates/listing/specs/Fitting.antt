@@ -9,19 +9,20 @@ use borrow.Author.Tests.{ltb-false, leb-false}
 use lib.ListN.{length, take, drop, length-append, length-drop}
 use Rattle.sequences.specs.Refusals.{neither-met, not-met}
 use Rattle.sequences.specs.Sums.{length-listFrom}
-use Rattle.meaning.specs.Words.{_≤?_, _<?_, first}
+use Rattle.meaning.specs.Words.{_≤?_, _<?_, met, first}
 use Rattle.meaning.specs.Fields.{Fixed}
 use Rattle.meaning.specs.Lines.{linesOf}
 use Rattle.meaning.specs.Records.{mostOrdinates}
 use Rattle.meaning.specs.Water.{flowLimit, plus}
-use Rattle.meaning.specs.Blocks.{Time, ratiosOf, under, Block, Kind, NoKind, Basin, Inflow, Confluence, Reach, kindOf, takes, Held, total, made, madeBy, reachK, reachSteps, reachX}
+use Rattle.meaning.specs.Blocks.{Time, ratiosOf, under, Block, Kind, NoKind, Basin, Inflow, Confluence, Reach, Pond, kindOf, takes, Held, total, made, madeBy, reachK, reachSteps, reachX, pondRows, overtops}
 use Rattle.meaning.specs.Results.{Result, peakOf}
-use Rattle.meaning.specs.Run.{Reading, BeforeTime, BeforeBlocks, InBlock, Event, heldFor, heldAfter, shapeRefusal, flowRefusal, flowRefusals, closingRefusal, depthAfter, Run, begun, heldIn, withResult, Standing, nothingYet, Every, manyRefusal, endRefusal, resultsOf, blockCount, Worked, Done, Step, stepUnless, act, andThen, walk, workedUnder, worked, mostBlocks}
+use Rattle.meaning.specs.Run.{Reading, BeforeTime, BeforeBlocks, InBlock, Event, takenBy, heldFor, heldAfter, shapeRefusal, flowRefusal, flowRefusals, closingRefusal, depthAfter, Run, begun, heldIn, withResult, Standing, nothingYet, Every, manyRefusal, endRefusal, resultsOf, blockCount, Worked, Done, Step, stepUnless, act, andThen, walk, workedUnder, worked, mostBlocks}
 use Rattle.limits.specs.Within as limits
 use Rattle.passes.specs.Does.{Does, refuses, waits, times, passes, begins, ends-empty, fills, turns, ends, does}
 use Rattle.passes.specs.One.{shape-under}
 use Rattle.passes.specs.Together.{some-ratio}
 use Rattle.routing.specs.Lengths.{length-routed}
+use Rattle.pond.specs.Limits.{ponded-length}
 use Rattle.results.specs.Records.{Each, each-more}
 use Rattle.closing.specs.Sizes.{area-after}
 use Rattle.text.specs.Trim.{name-sound}
@@ -61,6 +62,7 @@ short-made Basin τ b h few p = let long : length (madeBy Basin τ b h .flow) �
 short-made Inflow τ b h few p = let long : length (madeBy Inflow τ b h .flow) ≡ τ .ordinates = length-listFrom _ 0 (τ .ordinates) in omega arith
 short-made Confluence τ b h few p = p
 short-made Reach τ b h few p = omega (arith, length-routed (reachSteps b) (τ .minutes) (reachK b) (reachX b) (h .flow))
+short-made Pond τ b h few p = omega (arith, ponded-length (τ .minutes) (pondRows b) (h .flow))
 
 short-for : (τ : Time) (b : Block) (held : List Held) → τ .ordinates ≤ mostOrdinates → Short held → length (heldFor τ b held .flow) ≤ mostOrdinates
 unfolding made
@@ -79,13 +81,15 @@ record After (σ : Time) (waiting done : ℕ) (run : Run) : Type 0 where
 begun-after : (σ : Time) (r : ℕ) → After σ 0 0 (begun σ r)
 begun-after σ r = record { ratio = r; time = refl; depth = refl; counted = refl; areas = omega arith; short = tt; fit = tt }
 
-peak-low : (h : Held) → flowRefusal h ≡ 0 → peakOf (h .flow) ≤ flowLimit
+peak-low : (τ : Time) (b : Block) (taken : Held) → flowRefusal τ b taken ≡ 0 → peakOf (made τ b taken .flow) ≤ flowLimit
 unfolding flowRefusal
-peak-low h e = ltb-false flowLimit (peakOf (h .flow)) (not-met (flowLimit <? peakOf (h .flow)) 12 e)
+peak-low τ b taken e =
+    let peak = peakOf (made τ b taken .flow) in
+    ltb-false flowLimit peak (not-met (flowLimit <? peak) 12 (neither-met (met (overtops τ b taken) 20) _ e .1))
 
 -- a block closed without a refusal: its result fits
 module _ (σ : Time) (b : Block) (within : limits.TimeWithin σ) (block : limits.Within b) (waiting done : ℕ) (few : done < mostBlocks) (sound : shapeRefusal σ b waiting ≡ 0) where
-  module _ (run : Run) (after : After σ waiting done run) (low : flowRefusal (heldIn b run) ≡ 0) where
+  module _ (run : Run) (after : After σ waiting done run) (low : flowRefusal (run .time) b (takenBy b (run .held)) ≡ 0) where
     abbrev result : Result
     result = record { block = b; held = heldIn b run }
 
@@ -101,7 +105,7 @@ module _ (σ : Time) (b : Block) (within : limits.TimeWithin σ) (block : limits
     result-fits : Fits result
     result-fits =
         let name = name-sound (b .name) (block .name) in
-        fits result (name .0) (name .1) (omega (arith, areas-then)) flow-short (peak-low (heldIn b run) low)
+        fits result (name .0) (name .1) (omega (arith, areas-then)) flow-short (peak-low (run .time) b (takenBy b (run .held)) low)
 
     closed-after : After σ (depthAfter b waiting) (done + 1) (withResult b run)
     unfolding withResult
@@ -133,7 +137,7 @@ all-closed : (σ : Time) (b : Block) → limits.TimeWithin σ → limits.Within 
     → (runs : List Run) → All (After σ waiting done) runs → flowRefusals b runs ≡ 0 → All (After σ (depthAfter b waiting) (done + 1)) (map (withResult b) runs)
 all-closed σ b within block waiting done few sound [] all low = tt
 all-closed σ b within block waiting done few sound (run ∷ runs) all low =
-    let each = neither-met (flowRefusal (heldIn b run)) (flowRefusals b runs) low in
+    let each = neither-met (flowRefusal (run .time) b (takenBy b (run .held))) (flowRefusals b runs) low in
     (closed-after σ b within block waiting done few sound run (all .0) (each .0), all-closed σ b within block waiting done few sound runs (all .1) (each .1))
 
 -- their results are lots of as many, and the first lot tells how many

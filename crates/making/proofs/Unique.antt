@@ -12,4 +12,7 @@ pub one-storm-of : Once storm-of.ps storm-of.r storm-of-says.Post (λ κs x y e 
 one-storm-of κs a x y e f p q = p [] ∙ sym (q [])
 
 pub one-make : Once make.ps make.r make-says.Post (λ κs x y e f. (x ≡ y) × (now (e .0) ≡ now (f .0)))
-one-make κs a x y e f p q = (p [] .stack ∙ sym (q [] .stack), p [] .words ∙ sym (q [] .words))
+one-make κs a x y e f p q =
+    let held = p [] .makes .stack ∙ sym (q [] .makes .stack) in
+    let over = p [] .over ∙ sym (q [] .over) in
+    (rw (held, over), p [] .makes .words ∙ sym (q [] .makes .words))

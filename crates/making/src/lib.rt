@@ -2,14 +2,16 @@
 ghost use mathlib.Core.Path.{_≡_};
 ghost use mathlib.Core.List.{List, []};
 ghost use Prim.Native.Nat.{ℕ};
-ghost use Rattle.meaning.specs.Blocks.{Basin, Inflow, Confluence, Reach, basinArea};
+ghost use Rattle.meaning.specs.Blocks.{Basin, Inflow, Confluence, Reach, Pond, basinArea, overtops};
+ghost use Rattle.meaning.specs.Run.{takenBy};
 ghost use Rattle.blocks.specs.Meant.{timeIs};
 ghost use Rattle.blocks.specs.Cards.{blockOf, Readable};
 ghost use Rattle.kinds.specs.Kinds.{kindMeant};
+ghost use Rattle.stack.specs.View.{view};
 ghost use Rattle.stack.specs.Kinds.{blockLoss, blockTotal, blockStorm};
 ghost use Rattle.shaping.specs.Limits.{CardsWithin, Read};
 ghost use Rattle.shaping.specs.Shapes.{Shaped};
-ghost use Rattle.making.specs.Made.{HeldWithin, Makes};
+ghost use Rattle.making.specs.Made.{HeldWithin, Makes, MakesAll, madeDry};
 use blocks::Time;
 use excess::Loss;
 use excess::Storm;
@@ -117,17 +119,50 @@ fn make_reach(work: &mut [u64], held: Stack, time: Time, cards: &[u64]) -> Stack
     held
 }
 
-pub fn make(work: &mut [u64], held: Stack, time: Time, cards: &[u64], kind: Kind) -> Stack
+// A pond: the last held goes through its pool. It answers whether the pool rose above the last row of its table.
+fn make_pond(work: &mut [u64], held: Stack, time: Time, cards: &[u64]) -> bool
+    requires { ⌜ HeldWithin held (time .ordinates) (now work) ⌝ }
+    requires { ⌜ Read (timeIs time) (now cards) ⌝ }
+    requires { ⌜ ((name : List ℕ) → Shaped Pond (timeIs time) (blockOf name (now cards)) (held .depth)) ⌝ }
+    ensures { λ r. ⌜ ((name : List ℕ) → r ≡ overtops (timeIs time) (blockOf name (now (cards .entry))) (takenBy (blockOf name (now (cards .entry))) (view held (time .ordinates) (now (work .entry))))) ⌝ }
+    ensures made { λ _. ⌜ ((name : List ℕ) → Makes (timeIs time) (blockOf name (now (cards .entry))) held (now (work .entry)) held (now (work .exit))) ⌝ }
+{
+    let svs = blocks::values(cards, records::SV);
+    let sqs = blocks::values(cards, records::SQ);
+    stack::pond_last(work, held, time.ordinates, time.minutes, svs, sqs)
+}
+
+// What is held then, and whether a pool rose above the last row of its table.
+pub struct Made {
+    pub held: Stack,
+    pub overtopped: bool,
+}
+
+// No pool rose: the block is no pond.
+fn dry(held: Stack) -> Made
+    ensures { λ r. ⌜ r ≡ madeDry held ⌝ }
+{
+    Made {
+        held,
+        overtopped: false,
+    }
+}
+
+pub fn make(work: &mut [u64], held: Stack, time: Time, cards: &[u64], kind: Kind) -> Made
     requires { ⌜ HeldWithin held (time .ordinates) (now work) ⌝ }
     requires { ⌜ Read (timeIs time) (now cards) ⌝ }
     requires { ⌜ ((name : List ℕ) → Shaped (kindMeant kind) (timeIs time) (blockOf name (now cards)) (held .depth)) ⌝ }
-    ensures { λ r. ⌜ ((name : List ℕ) → Makes (timeIs time) (blockOf name (now (cards .entry))) held (now (work .entry)) r (now (work .exit))) ⌝ }
+    ensures { λ r. ⌜ ((name : List ℕ) → MakesAll (timeIs time) (blockOf name (now (cards .entry))) held (now (work .entry)) r (now (work .exit))) ⌝ }
 {
     match kind {
-        Kind::NoKind => held,
-        Kind::Basin => make_basin(work, held, time, cards),
-        Kind::Inflow => make_inflow(work, held, time, cards),
-        Kind::Confluence => make_confluence(work, held, time, cards),
-        Kind::Reach => make_reach(work, held, time, cards),
+        Kind::NoKind => dry(held),
+        Kind::Basin => dry(make_basin(work, held, time, cards)),
+        Kind::Inflow => dry(make_inflow(work, held, time, cards)),
+        Kind::Confluence => dry(make_confluence(work, held, time, cards)),
+        Kind::Reach => dry(make_reach(work, held, time, cards)),
+        Kind::Pond => {
+            let overtopped = make_pond(work, held, time, cards);
+            Made { held, overtopped }
+        }
     }
 }

@@ -27,7 +27,13 @@ pub const RM: usize = 6;
 
 pub const PB: usize = 7;
 
-pub const RECORDS: usize = 8;
+pub const RS: usize = 8;
+
+pub const SV: usize = 9;
+
+pub const SQ: usize = 10;
+
+pub const RECORDS: usize = 11;
 
 // The time control and the ratios have fields too, and are no records of a block: their places are behind them.
 pub const IT: usize = RECORDS;
@@ -35,13 +41,26 @@ pub const IT: usize = RECORDS;
 pub const JR: usize = RECORDS + 1;
 
 // Where the regions begin, and behind the last the end: a head word, then room for the values.
-const STARTS: [u16; RECORDS + 1] = [0, 2, 303, 307, 458, 759, 761, 765, 767];
+const STARTS: [u16; RECORDS + 1] = [
+    0,
+    2,
+    303,
+    307,
+    458,
+    759,
+    761,
+    765,
+    767,
+    771,
+    792,
+    813,
+];
 
 // All of them.
-pub const WORDS: usize = 767;
+pub const WORDS: usize = 813;
 
 // How a record stands: 0 once, 1 a list of as many values as there is room for, 2 a list of at most NQ.
-const WAYS: [u8; RECORDS] = [0, 2, 0, 1, 2, 0, 0, 0];
+const WAYS: [u8; RECORDS] = [0, 2, 0, 1, 2, 0, 0, 0, 0, 1, 1];
 
 // The identifiers' two bytes as numbers.
 const KEYS: [u16; RECORDS] = [
@@ -53,10 +72,13 @@ const KEYS: [u16; RECORDS] = [
     0x4843,
     0x524D,
     0x5042,
+    0x5253,
+    0x5356,
+    0x5351,
 ];
 
 // How many fields have a value whether they are written or not: none where values are listed.
-const NAMED: [u16; RECORDS + 2] = [1, 0, 3, 0, 0, 1, 3, 1, 4, 10];
+const NAMED: [u16; RECORDS + 2] = [1, 0, 3, 0, 0, 1, 3, 1, 3, 0, 0, 4, 10];
 
 fn wide(x: u16) -> u64
     ensures { λ r. ⌜ r ≡ x ⌝ }
@@ -172,6 +194,14 @@ fn own_rule(item: usize, k: usize) -> Rule
             0 => Rule::Limited(4, 0, 1000000),
             _ => Rule::Unnamed,
         },
+        RS => match k {
+            0 => Rule::Limited(0, 1, 1),
+            1 => Rule::Worded(7, 4, 0x53544F52, 0x53544F52),
+            2 => Rule::Limited(0, 0, 0),
+            _ => Rule::Unnamed,
+        },
+        SV => Rule::Limited(2, 0, 9999999),
+        SQ => Rule::Limited(2, 0, 10000000),
         _ => Rule::Unnamed,
     }
 }

@@ -1,10 +1,10 @@
-// What the lines alone decide of a block that closes, before any flow is looked at: its kind, the refusals 9, 18 and 10 to 12, and how many are
-// held after it.
+// What the lines alone decide of a block that closes, before any flow is looked at: its kind, the refusals 9, 18, 10, 11 and 12 or 19, and how many
+// are held after it.
 ghost use mathlib.Core.Path.{_≡_};
 ghost use mathlib.Core.List.{List};
 ghost use Prim.Native.Nat.{ℕ};
-ghost use Rattle.meaning.specs.Words.{_=?_};
-ghost use Rattle.meaning.specs.Blocks.{Reach, kindNumber, takesBy, patternless, brokenBy, reachSteps, reachK, reachX};
+ghost use Rattle.meaning.specs.Words.{_=?_, met};
+ghost use Rattle.meaning.specs.Blocks.{Reach, Pond, kindNumber, takesBy, patternless, brokenBy, reachSteps, reachK, reachX};
 ghost use Rattle.blocks.specs.Meant.{timeIs};
 ghost use Rattle.blocks.specs.Cards.{blockOf, Readable};
 ghost use Rattle.kinds.specs.Kinds.{kindMeant};
@@ -15,7 +15,7 @@ use kinds::Kind;
 
 const MOST_HELD: usize = 20;
 
-// The refusal by 9 to 12 or by 18, 0 for none; the kind; and how many are held then, as many as before where the block is refused.
+// The refusal by 9 to 12, 18 or 19, 0 for none; the kind; and how many are held then, as many as before where the block is refused.
 pub struct Shape {
     pub refusal: u64,
     pub kind: Kind,
@@ -31,6 +31,7 @@ pub fn number_of(kind: Kind) -> u8
         Kind::Inflow => 2,
         Kind::Confluence => 3,
         Kind::Reach => 4,
+        Kind::Pond => 5,
     }
 }
 
@@ -52,6 +53,7 @@ fn taken_by(kind: Kind, cards: &[u64]) -> usize
         Kind::Inflow => 0,
         Kind::Confluence => blocks::value_at(cards, records::HC, 0) as usize,
         Kind::Reach => 1,
+        Kind::Pond => 1,
     }
 }
 
@@ -72,26 +74,49 @@ pub fn reach_of(cards: &[u64]) -> ReachNumbers
     ReachNumbers { steps, k, x }
 }
 
-// Whether a reach has its coefficients out of order.
-fn is_out_of_order(time: Time, cards: &[u64]) -> bool
+// A refusal where its test holds, else 0.
+fn met_by(test: bool, number: u64) -> u64
+    ensures { λ r. ⌜ r ≡ met test number ⌝ }
+{
+    if test {
+        return number;
+    }
+    0
+}
+
+// A reach whose coefficients are out of order is refused by 12.
+fn refuse_reach(time: Time, cards: &[u64]) -> u64
     requires { ⌜ Read (timeIs time) (now cards) ⌝ }
     ensures { λ r. ⌜ ((name : List ℕ) → r ≡ brokenBy Reach (timeIs time) (blockOf name (now (cards .entry)))) ⌝ }
 {
     let reach = reach_of(cards);
-    routing::is_unroutable(reach.steps, time.minutes, reach.k, reach.x)
+    let unroutable = routing::is_unroutable(reach.steps, time.minutes, reach.k, reach.x);
+    met_by(unroutable, 12)
 }
 
-// Whether a block of the kind has values that do not go together.
-fn is_broken(kind: Kind, time: Time, cards: &[u64]) -> bool
+// A pond whose table breaks a rule is refused by 19.
+fn refuse_pond(time: Time, cards: &[u64]) -> u64
+    requires { ⌜ Read (timeIs time) (now cards) ⌝ }
+    ensures { λ r. ⌜ ((name : List ℕ) → r ≡ brokenBy Pond (timeIs time) (blockOf name (now (cards .entry)))) ⌝ }
+{
+    let svs = blocks::values(cards, records::SV);
+    let sqs = blocks::values(cards, records::SQ);
+    let breaks = pond::table_breaks(time.minutes, svs, sqs);
+    met_by(breaks, 19)
+}
+
+// The refusal of a block of the kind whose values do not go together.
+fn refuse_broken(kind: Kind, time: Time, cards: &[u64]) -> u64
     requires { ⌜ Read (timeIs time) (now cards) ⌝ }
     ensures { λ r. ⌜ ((name : List ℕ) → r ≡ brokenBy (kindMeant kind) (timeIs time) (blockOf name (now (cards .entry)))) ⌝ }
 {
     match kind {
-        Kind::NoKind => false,
-        Kind::Basin => false,
-        Kind::Inflow => false,
-        Kind::Confluence => false,
-        Kind::Reach => is_out_of_order(time, cards),
+        Kind::NoKind => 0,
+        Kind::Basin => 0,
+        Kind::Inflow => 0,
+        Kind::Confluence => 0,
+        Kind::Reach => refuse_reach(time, cards),
+        Kind::Pond => refuse_pond(time, cards),
     }
 }
 
@@ -106,8 +131,8 @@ fn is_patternless(time: Time, cards: &[u64]) -> bool
     storms::is_dry(blocks::values(cards, records::PI), time.ordinates)
 }
 
-// The refusals in their order: no kind (9), a total without a pattern (18), too few held (10), no room for one more (11), values that do not go together (12).
-fn refusal_by(kindless: bool, patternless: bool, taken: usize, held: usize, broken: bool) -> u64
+// The refusals in their order: no kind (9), a total without a pattern (18), too few held (10), no room for one more (11), values that do not go together (12 or 19).
+fn refusal_by(kindless: bool, patternless: bool, taken: usize, held: usize, broken: u64) -> u64
     ensures { λ r. ⌜ r ≡ refusalBy kindless patternless taken held broken ⌝ }
 {
     if kindless {
@@ -122,10 +147,7 @@ fn refusal_by(kindless: bool, patternless: bool, taken: usize, held: usize, brok
     if MOST_HELD <= held - taken {
         return 11;
     }
-    if broken {
-        return 12;
-    }
-    0
+    broken
 }
 
 // The shape of the open block where so many are held.
@@ -136,7 +158,7 @@ pub fn shape_of(time: Time, cards: &[u64], held: usize) -> Shape
     let kind = kinds::kind_of(cards);
     let kindless = is_kindless(kind);
     let taken = taken_by(kind, cards);
-    let broken = is_broken(kind, time, cards);
+    let broken = refuse_broken(kind, time, cards);
     let patternless = is_patternless(time, cards);
     let refusal = refusal_by(kindless, patternless, taken, held, broken);
     if refusal != 0 {

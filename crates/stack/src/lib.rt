@@ -7,11 +7,13 @@ ghost use lib.ListN.{length, take, drop, getD};
 ghost use Rattle.sequences.specs.Bounds.{AllUpTo};
 ghost use Rattle.sequences.specs.Parts.{part, put};
 ghost use Rattle.meaning.specs.Water.{inflowOf, plus, routedOf};
+ghost use Rattle.meaning.specs.Pool.{rowsOf, pondedOf, overtopped};
 ghost use Rattle.meaning.specs.Blocks.{total};
 ghost use Rattle.meaning.specs.Records.{mostOrdinates};
 ghost use Rattle.routing.specs.Soundness.{Reach};
+ghost use Rattle.pond.specs.Tables.{PondTable};
 ghost use Rattle.runoff.specs.Storm.{StormWithin, stormRunoff};
-ghost use Rattle.stack.specs.View.{Fits, view, noneHeld, pushed, heldOf, routedHeld};
+ghost use Rattle.stack.specs.View.{Fits, view, noneHeld, pushed, heldOf, routedHeld, pondedHeld};
 ghost use Rattle.stack.specs.Joining.{joinedPair, joinedWords, joinedStack, joinedAllWords};
 ghost use Rattle.stack.specs.Limits.{Tops, Within, Added};
 use excess::Storm;
@@ -143,4 +145,17 @@ pub fn route_last(work: &mut [u64], stack: Stack, nq: usize, n: u64, m: u64, k: 
 {
     let p = PLACE * (stack.depth - 1);
     routing::route(&mut work[p..p + nq], n, m, k, x);
+}
+
+// A pond: the last held goes through its pool, and keeps its area. It answers whether the pool rose above its last row.
+pub fn pond_last(work: &mut [u64], stack: Stack, nq: usize, m: u64, svs: &[u64], sqs: &[u64]) -> bool
+    requires { ⌜ (1 ≤ stack .depth) × Fits (stack .depth) nq (length (now work)) ⌝ }
+    requires { ⌜ Within (view stack nq (now work)) ⌝ }
+    requires { ⌜ PondTable m (now svs) (now sqs) ⌝ }
+    ensures { λ r. ⌜ r ≡ overtopped m (rowsOf (now (svs .entry)) (now (sqs .entry))) (total (take 1 (view stack nq (now (work .entry)))) .flow) ⌝ }
+    ensures words { λ _. ⌜ now (work .exit) ≡ put (mostOrdinates * (stack .depth - 1)) nq (now (work .entry)) (pondedOf m (rowsOf (now (svs .entry)) (now (sqs .entry))) (part (mostOrdinates * (stack .depth - 1)) nq (now (work .entry)))) ⌝ }
+    ensures held { λ _. ⌜ view stack nq (now (work .exit)) ≡ pondedHeld m (rowsOf (now (svs .entry)) (now (sqs .entry))) (total (take 1 (view stack nq (now (work .entry))))) ∷ drop 1 (view stack nq (now (work .entry))) ⌝ }
+{
+    let p = PLACE * (stack.depth - 1);
+    pond::pass_pool(&mut work[p..p + nq], m, svs, sqs)
 }

@@ -23,4 +23,5 @@ kind-of-spec =
     (λ c. by-key (c .before) _ (c .match .keys4))
     (λ c. by-key (c .before) _ (c .match .keys5))
     (λ c. by-key (c .before) _ (c .match .keys6))
+    (λ c. by-key (c .before) _ (c .match .keys7))
     (λ c name. kind-by-none (c .before .mask-of .result) (c .match .rest) ∙ by-key (c .before) (c .before .mask-of .result) refl name))

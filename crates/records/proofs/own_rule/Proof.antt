@@ -32,5 +32,12 @@ own-rule-spec =
     (λ c. search needs) (λ c. search needs) (λ c. search needs) (λ c. past-fields _ (ap fieldRow (c .before .match .keys9)) (c .match7 .rest))
     -- PB
     (λ c. search needs) (λ c. past-fields _ (ap fieldRow (c .before .match .keys10)) (c .match8 .rest))
+    -- RS
+    (λ c. search needs) (λ c. rw (c .before .match .keys11, c .match9 .keys2)) (λ c. search needs)
+    (λ c. past-fields _ (ap fieldRow (c .before .match .keys11)) (c .match9 .rest))
+    -- SV
+    (λ c. search needs)
+    -- SQ
+    (λ c. search needs)
     -- none of them
     (λ c. no-rule (c .before .args .item) _ (c .match .rest)))

@@ -19,20 +19,13 @@ returns-4 c =
 
 returns-5 : tie.Need-returns-5
 returns-5 c =
-    let x = c .before .before .before .before .before .args in
-    let room : x .held - x .taken < 20 = omega (arith, c .before .if4 .left) in
-    let enough = le-ltb _ _ (c .before .before .if3 .left) in
-    rw (c .before .before .before .before .if1 .left, c .before .before .before .if2 .left, enough, lt-leb _ _ room, c .if5 .taken)
-
-returns-6 : tie.Need-returns-6
-returns-6 c =
-    let x = c .before .before .before .before .before .args in
-    let room : x .held - x .taken < 20 = omega (arith, c .before .if4 .left) in
-    let enough = le-ltb _ _ (c .before .before .if3 .left) in
-    rw (c .before .before .before .before .if1 .left, c .before .before .before .if2 .left, enough, lt-leb _ _ room, c .if5 .left)
+    let x = c .before .before .before .before .args in
+    let room : x .held - x .taken < 20 = omega (arith, c .if4 .left) in
+    let enough = le-ltb _ _ (c .before .if3 .left) in
+    rw (c .before .before .before .if1 .left, c .before .before .if2 .left, enough, lt-leb _ _ room)
 
 pub refusal-by-spec : {M : Type 1} → statement M
 refusal-by-spec =
     tie.close
     (tie.spec
-    (λ c. rw (c .if1 .taken)) (λ c. rw (c .before .if1 .left, c .if2 .taken)) returns-3 returns-4 returns-5 returns-6)
+    (λ c. rw (c .if1 .taken)) (λ c. rw (c .before .if1 .left, c .if2 .taken)) returns-3 returns-4 returns-5)

@@ -24,7 +24,7 @@ at-kindless c = c .before .before .before .before
 abbrev at-taken : tie.After-refusal-by → tie.After-taken-by
 at-taken c = c .before .before .before
 
-abbrev at-broken : tie.After-refusal-by → tie.After-is-broken
+abbrev at-broken : tie.After-refusal-by → tie.After-refuse-broken
 at-broken c = c .before .before
 
 refusal : (c : tie.After-refusal-by) (name : List ℕ) → let x = entry c .args in
@@ -33,11 +33,11 @@ refusal c name =
     let x = entry c .args in
     c .refusal-by .ensures
     ∙ shape-found (timeIs (x .time)) (blockOf name (x .cards .now)) (x .held) (at-kind c .kind-of .result) (at-kind c .kind-of .ensures name) _ _ _ _
-    (at-kindless c .is-kindless .ensures) (c .before .is-patternless .ensures name) (at-taken c .taken-by .ensures name) (at-broken c .is-broken .ensures name)
+    (at-kindless c .is-kindless .ensures) (c .before .is-patternless .ensures name) (at-taken c .taken-by .ensures name) (at-broken c .refuse-broken .ensures name)
 
 -- where none is met, as many are held as the block takes, and there is room for it
 let-through : (c : tie.After-refusal-by) → c .refusal-by .result ≡ 0
-    → Passes (at-taken c .taken-by .result) (entry c .args .held) (at-broken c .is-broken .result)
+    → Passes (at-taken c .taken-by .result) (entry c .args .held) (at-broken c .refuse-broken .result)
 let-through c none = passes (at-kindless c .is-kindless .result) (c .before .is-patternless .result) _ _ _ (sym (c .refusal-by .ensures) ∙ none)
 
 returns : tie.Need-returns
