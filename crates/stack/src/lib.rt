@@ -148,7 +148,14 @@ pub fn route_last(work: &mut [u64], stack: Stack, nq: usize, n: u64, m: u64, k: 
 }
 
 // A pond: the last held goes through its pool, and keeps its area. It answers whether the pool rose above its last row.
-pub fn pond_last(work: &mut [u64], stack: Stack, nq: usize, m: u64, svs: &[u64], sqs: &[u64]) -> bool
+pub fn pond_last(
+    work: &mut [u64],
+    stack: Stack,
+    nq: usize,
+    m: u64,
+    svs: &[u64],
+    sqs: &[u64],
+) -> bool
     requires { ⌜ (1 ≤ stack .depth) × Fits (stack .depth) nq (length (now work)) ⌝ }
     requires { ⌜ Within (view stack nq (now work)) ⌝ }
     requires { ⌜ PondTable m (now svs) (now sqs) ⌝ }

@@ -17,34 +17,35 @@ use Rattle.making.proofs.make_pond.Tie as tie
 
 pond-last-requires : tie.Need-pond-last-requires
 pond-last-requires c κs =
-    let s = c .before .before .before .before in
+    let s = c .before .before .before .before .before in
     let x = s .args in
     let τ = timeIs (x .time) in
     let b = blockOf [] (x .cards .now) in
     let read = s .pre .1 .0 in
     let some : 1 ≤ x .held .depth = shaped-passes τ b (x .held .depth) (s .pre .1 .1 []) .enough in
     let table = pond-shaped τ b (x .held .depth) (s .pre .1 .1 []) (read .time) (read .cards) in
-    ((some, s .pre .0 .fits), (s .pre .0 .flows, rw (c .before .before .values .ensures [], c .values2 .ensures []) table))
+    ((some, s .pre .0 .fits), (s .pre .0 .flows, rw (c .before .before .values .ensures [], c .before .values2 .ensures []) table))
 
 -- the rows that were lent are the block's own
 rows : (c : tie.After-pond-last) (name : List ℕ) → let x = c .before .before .before .before .before .before .args in
-    rowsOf (c .before .before .before .before .values .result .now) (c .before .before .values2 .result .now) ≡ pondRows (blockOf name (x .cards .now))
-rows c name = rw (c .before .before .before .before .values .ensures name, c .before .before .values2 .ensures name)
+    rowsOf (c .before .before .before .values .result .now) (c .before .before .values2 .result .now) ≡ pondRows (blockOf name (x .cards .now))
+rows c name = rw (c .before .before .before .values .ensures name, c .before .before .values2 .ensures name)
 
 returns : tie.Need-returns
 returns c =
-    let s = c .before .before .before .before .before .before .before in
+    let s = c .before .before .before .before .before .before .before .before in
     let x = s .args in
     let τ = timeIs (x .time) in
-    let h = c .before .pond-last .ensures in
-    (λ name.
-    let b = blockOf name (x .cards .now) in
-    h .0 ∙ rw (rows (c .before) name, takes-by b (s .pre .1 .1 name .is)) (sym (over-by τ b (total (take 1 (view (x .held) (x .time .ordinates) (x .work .now)))) (s .pre .1 .1 name .is))),
-    λ name.
-    let b = blockOf name (x .cards .now) in
-    let e = s .pre .1 .1 name .is in
-    makes-by τ b (x .held) (x .work .now) e refl (h .1 .0 ∙ rw (rows (c .before) name))
-    (h .1 .1 ∙ rw (rows (c .before) name) (sym (after-pond τ b (view (x .held) (x .time .ordinates) (x .work .now)) e))))
+    let h = c .before .before .pond-last .ensures in (
+      λ name.
+          let b = blockOf name (x .cards .now) in
+          h .0 ∙ rw (rows (c .before .before) name, takes-by b (s .pre .1 .1 name .is)) (sym (over-by τ b (total (take 1 (view (x .held) (x .time .ordinates) (x .work .now)))) (s .pre .1 .1 name .is))),
+      λ name.
+          let b = blockOf name (x .cards .now) in
+          let e = s .pre .1 .1 name .is in
+          makes-by τ b (x .held) (x .work .now) e refl (h .1 .0 ∙ rw (rows (c .before .before) name))
+          (h .1 .1 ∙ rw (rows (c .before .before) name) (sym (after-pond τ b (view (x .held) (x .time .ordinates) (x .work .now)) e))),
+    )
 
 pub make-pond-spec : {M : Type 1} → statement M
-make-pond-spec = tie.close (tie.spec (λ c κs. search needs) (λ c κs. search needs) pond-last-requires returns)
+make-pond-spec = tie.close (tie.spec (λ c κs. search needs) (λ c κs. search needs) pond-last-requires (λ c. search needs) returns)

@@ -1,10 +1,8 @@
 -- `shaping::refuse_reach` meets its contract: the reach's numbers are within their limits.
-use mathlib.Core.Path.{ap, _∙_}
-use mathlib.Core.Bool.{Bool}
+use mathlib.Core.Path.{_∙_}
 use mathlib.Core.List.{[]}
 use native.Mathlib.Omega.{arith}
 use borrow.Author.Needs.{needs}
-use Rattle.meaning.specs.Words.{met}
 use Rattle.blocks.specs.Meant.{timeIs}
 use Rattle.blocks.specs.Cards.{blockOf}
 use Rattle.shaping.specs.Limits.{reach-small}
@@ -19,8 +17,8 @@ is-unroutable-requires c κs =
 
 returns : tie.Need-returns
 returns c = λ name.
-    let e = c .before .before .before .reach-of .ensures name in
-    c .met-by .ensures ∙ ap (λ (test : Bool). met test 12) (c .before .before .is-unroutable .ensures ∙ rw (e .0, e .1, e .2))
+    let e = c .before .before .reach-of .ensures name in
+    c .met-by .ensures ∙ rw (c .before .is-unroutable .ensures, e .0, e .1, e .2)
 
 pub refuse-reach-spec : {M : Type 1} → statement M
 refuse-reach-spec = tie.close (tie.spec (λ c κs. search needs) is-unroutable-requires (λ c κs. search needs) returns)
