@@ -1,24 +1,26 @@
 -- Walks under different ratios read the same blocks and the same time control.
 --     walks-alike    two walks that come to their end have as many results and the same time control, which has as many ratios as the deck
-use Prim.Native.Nat.{ℕ, suc, _+_}
+use Prim.Native.Nat.{ℕ, zero, suc, _+_}
 use mathlib.Core.Path.{_≡_, refl, sym, ap, _∙_}
-use mathlib.Core.Logic.{_⊎_, ⊎-elim}
 use mathlib.Core.List.{List, [], _∷_}
 use native.Mathlib.Omega.{arith}
 use lib.ListN.{length, length-append}
 use Rattle.meaning.specs.Blocks.{Time, ratiosOf, ratioAt}
 use Rattle.meaning.specs.Results.{Result}
-use Rattle.meaning.specs.Run.{heldIn, Run, begun, withResult, Which, Only, Stopped, Done, workedUnder}
-use Rattle.passes.specs.Scripts.{Script, Fails, Ends, Starts, Closes, scriptOf, play, worked-plays}
+use Rattle.meaning.specs.Run.{heldIn, Run, begun, withResult, flowRefusals, Which, Only, Worked, Done, workedUnder}
+use Rattle.passes.specs.Scripts.{Script, Fails, Ends, Starts, Closes, scriptOf, stoppedUnless, play, worked-plays}
 use Rattle.passes.specs.Apart.{ratioCount}
 use Rattle.passes.specs.InOrder.{After, Begun, deck-begun}
-use Rattle.passes.specs.Together.{flow-or-not}
 
 abbrev closesIn : Script → ℕ
 closesIn (Fails number line) = 0
 closesIn (Ends τ) = 0
 closesIn (Starts τ s) = 0
 closesIn (Closes b line s) = suc (closesIn s)
+
+not-stopped : (number line : ℕ) (w : Worked) (σ : Time) (rss : List (List Result)) → stoppedUnless number line w ≡ Done σ rss → w ≡ Done σ rss
+not-stopped zero line w σ rss e = e
+not-stopped (suc number) line w σ rss e = let z : _≡_ {A = ℕ} 0 1 = cc in absurd (omega arith)
 
 module _ (which : Which) (τ : Time) where
   play-length : (run : Run) (line : ℕ) (s : Script) → After τ line s → (σ : Time) (rs : List Result) → play which (run ∷ []) s ≡ Done σ (rs ∷ [])
@@ -28,12 +30,8 @@ module _ (which : Which) (τ : Time) where
   play-length run line (Ends ρ) a σ rs e = let f : run .results ≡ rs = cc in (omega (arith, ap (length {A = Result}) f), cc)
   play-length run line (Starts ρ s) a σ rs e = absurd a
   play-length run line (Closes b line′ s) a σ rs e =
-      ⊎-elim
-      (λ z.
-      let i = play-length (withResult b run) line′ s (a .1) σ rs (rw z at e) in
-      (omega (arith, i .0, length-append (run .results) (record { block = b; held = heldIn b run } ∷ [])), i .1))
-      (λ z. let f : Stopped 13 line′ ≡ Done σ (rs ∷ []) = rw z at e in let y : _≡_ {A = ℕ} 0 1 = cc in absurd (omega arith))
-      (flow-or-not b run)
+      let i = play-length (withResult b run) line′ s (a .1) σ rs (not-stopped (flowRefusals b (run ∷ [])) line′ (play which (withResult b run ∷ []) s) σ (rs ∷ []) e) in
+      (omega (arith, i .0, length-append (run .results) (record { block = b; held = heldIn b run } ∷ [])), i .1)
 
 pub record Alike (deck : List ℕ) (σ ρ : Time) (rs qs : List Result) : Type 0 where
   pub blocks : length rs ≡ length qs

@@ -1,4 +1,5 @@
 -- What the code does: a walk over the whole deck for each ratio, and of what they find that which is met first.
+--     rankOf           which of two refusals on one line is met first
 --     sooner, apart    what two walks come to, and what all of them do, one after another
 --     ratioCount       how many ratios a deck has, so how many walks there are
 --     count-found      the same by the next event of the deck, as the code reads it
@@ -14,10 +15,14 @@ use Rattle.meaning.specs.Blocks.{ratiosOf}
 use Rattle.meaning.specs.Run.{Reading, BeforeTime, BeforeBlocks, InBlock, Event, Refuse, Go, Open, End, readLine, Only, Worked, Stopped, Done, workedUnder}
 use Rattle.events.specs.NextEvent.{Found, Missing, Met, metBy, nextEvent}
 
--- Of two refusals the first: the earlier line, and on one line the smaller number. Line 0, that of 16, comes last.
+-- On one line the numbers are met in their order, but for 20: flows decide it, as they do 13, so it has the place of 13, before 14 and 15.
+unfoldable pub rankOf : (number : ℕ) → ℕ
+rankOf number = if number =? 20 then 13 else number
+
+-- Of two refusals the first: the earlier line, on one line the smaller rank, and of equal ranks the first of the two. Line 0, that of 16, comes last.
 unfoldable pub comesFirst : (number line number′ line′ : ℕ) → Bool
 comesFirst number line number′ line′ =
-    if line =? line′ then number ≤? number′ else
+    if line =? line′ then rankOf number ≤? rankOf number′ else
     if line =? 0 then false else
     if line′ =? 0 then true else
     line <? line′

@@ -8,17 +8,17 @@ use mathlib.Core.Logic.{_⊎_, inl, inr}
 use mathlib.Core.List.{List, [], _∷_}
 use native.Mathlib.Omega.{arith}
 use lib.ListN.{length}
-use Rattle.meaning.specs.Words.{_=?_, _≤?_, met}
+use Rattle.meaning.specs.Words.{_=?_, _≤?_, if_then_else_, met}
 use Rattle.meaning.specs.Lines.{linesOf}
 use Rattle.meaning.specs.Fields.{Form, Fixed}
 use Rattle.meaning.specs.Blocks.{Time, ratiosOf, Block}
 use Rattle.meaning.specs.Run.{Reading, BeforeTime, BeforeBlocks, InBlock, Event, readLine, shapeRefusal, depthAfter, mostBlocks, manyRefusal, endRefusal}
 use Rattle.passes.specs.Scripts.{Script, Fails, Ends, Starts, Closes, failing, scripted, scriptFrom, scriptOf}
-use Rattle.passes.specs.Apart.{countBy, countFrom, ratioCount}
+use Rattle.passes.specs.Apart.{rankOf, countBy, countFrom, ratioCount}
 use Rattle.passes.specs.Does.{Does, refuses, waits, times, passes, begins, ends-empty, fills, turns, ends, does}
 
 abbrev pub Past : (line number line′ : ℕ) → Type 0
-Past line number line′ = (line′ ≡ 0) ⊎ (line < line′) ⊎ ((line ≡ line′) × (13 < number))
+Past line number line′ = (line′ ≡ 0) ⊎ (line < line′) ⊎ ((line ≡ line′) × (13 < rankOf number))
 
 abbrev pub After : Time → ℕ → Script → Type 0
 After τ line (Fails number line′) = Past line number line′
@@ -34,10 +34,12 @@ after-closing τ zero at line b next h a = (h, a)
 after-closing τ (suc shape) at line b next h a = inr (inl h)
 
 after-many : (τ : Time) (t : Bool) (line : ℕ) (next : Script) → After τ line next → After τ line (failing (met t 14) line next)
+unfolding rankOf if_then_else_
 after-many τ true line next a = inr (inr (refl, omega arith))
 after-many τ false line next a = a
 
 after-end : (t : Bool) (line : ℕ) (τ : Time) → After τ line (failing (met t 15) line (Ends τ))
+unfolding rankOf if_then_else_
 after-end true line τ = inr (inr (refl, omega arith))
 after-end false line τ = refl
 

@@ -1,8 +1,8 @@
 -- The walk under one ratio, in the words of one list of held: a walk stands with one run, and a block closes by what that run holds.
 --     timeAt            the time control of a deck with the ratio at a place in force
 --     standing          where a walk under one ratio stands
---     closingUnder      9 to 13 and 18 of a block under one ratio
---     shape-under       9 to 12 and 18 know no ratio
+--     closingUnder      9 to 13 and 18 to 20 of a block under one ratio
+--     shape-under       9 to 12, 18 and 19 know no ratio
 --     one-refusal, one-waiting    the refusal of a block that closes, and how many are held then
 --     one-opens, one-ends         what a KK and the ZZ do to such a standing
 use Prim.Native.Nat.{ℕ, _+_, _-_}
@@ -12,9 +12,9 @@ use native.Mathlib.Omega.{arith}
 use lib.ListN.{length, length-drop}
 use Rattle.meaning.specs.Words.{first}
 use Rattle.meaning.specs.Fields.{Form}
-use Rattle.meaning.specs.Blocks.{Time, ratioAt, under, Block, Kind, NoKind, Basin, Inflow, Confluence, Reach, kindOf, Held, takes, patternless, brokenBy, broken}
+use Rattle.meaning.specs.Blocks.{Time, ratioAt, under, Block, Kind, NoKind, Basin, Inflow, Confluence, Reach, Pond, kindOf, Held, takes, patternless, brokenBy, broken}
 use Rattle.meaning.specs.Results.{Result}
-use Rattle.meaning.specs.Run.{Reading, InBlock, Open, End, shapeRefusal, depthAfter, flowRefusal, heldFor, heldAfter, withResult, closingRefusal, Which, Standing, Stop, Next, Done, stepUnless, manyRefusal, endRefusal, act}
+use Rattle.meaning.specs.Run.{Reading, InBlock, Open, End, shapeRefusal, depthAfter, flowRefusal, takenBy, heldFor, heldAfter, withResult, closingRefusal, Which, Standing, Stop, Next, Done, stepUnless, manyRefusal, endRefusal, act}
 use Rattle.sequences.specs.Refusals.{none-after}
 
 abbrev pub timeAt : ℕ → Time → Time
@@ -24,7 +24,7 @@ abbrev pub standing : Time → (blocks : ℕ) → List Held → List Result → 
 standing τ blocks held rs = record { blocks = blocks; waiting = length held; runs = record { time = τ; held = held; results = rs } ∷ [] }
 
 abbrev pub closingUnder : Time → Block → List Held → ℕ
-closingUnder τ b held = first (shapeRefusal τ b (length held)) (flowRefusal (heldFor τ b held))
+closingUnder τ b held = first (shapeRefusal τ b (length held)) (flowRefusal τ b (takenBy b held))
 
 broken-under : (kind : Kind) (r : ℕ) (σ : Time) (b : Block) → brokenBy kind (under r σ) b ≡ brokenBy kind σ b
 broken-under NoKind r σ b = refl
@@ -32,6 +32,7 @@ broken-under Basin r σ b = refl
 broken-under Inflow r σ b = refl
 broken-under Confluence r σ b = refl
 broken-under Reach r σ b = refl
+broken-under Pond r σ b = refl
 
 pub shape-under : (r : ℕ) (σ : Time) (b : Block) (held : ℕ) → shapeRefusal (under r σ) b held ≡ shapeRefusal σ b held
 unfolding shapeRefusal patternless broken
@@ -43,7 +44,7 @@ module _ (r : ℕ) (σ : Time) (f : Form) (b : Block) (blocks : ℕ) (held : Lis
 
   pub one-refusal : closingRefusal σ b (standing τ blocks held rs) ≡ closingUnder τ b held
   unfolding closingRefusal
-  one-refusal = rw (none-after (flowRefusal (heldFor τ b held)), shape-under r σ b (length held))
+  one-refusal = rw (none-after (flowRefusal τ b (takenBy b held)), shape-under r σ b (length held))
 
   abbrev more : List Result
   more = rs ++ (record { block = b; held = heldFor τ b held } ∷ [])

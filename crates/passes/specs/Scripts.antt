@@ -11,7 +11,7 @@ use Rattle.meaning.specs.Fields.{Fixed}
 use Rattle.meaning.specs.Blocks.{Time, Block}
 use Rattle.meaning.specs.Run.{Reading, BeforeTime, BeforeBlocks, InBlock, Event, Refuse, Go, Open, End, readLine, shapeRefusal, depthAfter, Run, begun, withResult, flowRefusals, Which, chosen, Standing, nothingYet, closingRefusal, closed, oneMore, resultsOf, Worked, Stopped, Done, Stop, Next, stepUnless, manyRefusal, endRefusal, act, andThen, walk, workedUnder}
 
--- A refusal that is not 13; the ZZ; the first KK, where the runs start; a block that closes at a line.
+-- A refusal that no flow decides, so neither 13 nor 20; the ZZ; the first KK, where the runs start; a block that closes at a line.
 pub data Script : Type 0 where
   Fails : (number line : ℕ) → Script
   Ends : Time → Script
@@ -22,7 +22,7 @@ abbrev pub failing : ℕ → ℕ → Script → Script
 failing zero line next = next
 failing (suc number) line next = Fails (suc number) line
 
--- What a KK or ZZ closes, once 9 to 12 and 18 are passed; what the KK starts, if it is the first.
+-- What a KK or ZZ closes, once 9 to 12, 18 and 19 are passed; what the KK starts, if it is the first.
 abbrev pub closing : Reading → (waiting line : ℕ) → Script → Script
 closing (BeforeTime form) waiting line next = next
 closing (BeforeBlocks τ form) waiting line next = next
@@ -70,7 +70,7 @@ module _ (which : Which) where
   abbrev Asking : Type 0
   Asking = Reading → ℕ → ℕ → Script
 
-  -- A KK that closes a block, by its refusals: those of its shape, 13, 14. Where none was open, 14 only. A ZZ likewise, with 15.
+  -- A KK that closes a block, by its refusals: those of its shape, 20 or 13 of its flows, 14. Where none was open, 14 only. A ZZ likewise, with 15.
   kk-plays : (shape flow many line : ℕ) (b : Block) (runs : List Run) (next : Script) (r : Reading) (s : Standing) (go : Going)
       → flowRefusals b runs ≡ flow → go r s ≡ play which (map (withResult b) runs) next
       → andThen (stepUnless (first (first shape flow) many) line (Next r s)) go ≡ play which runs (failing shape line (Closes b line (failing many line next)))

@@ -4,7 +4,7 @@
 use Prim.Native.Nat.{ℕ, zero, suc, _+_, _-_, _≤_, _<_}
 use mathlib.Core.Path.{_≡_, refl, sym, ap, _∙_}
 use mathlib.Core.Bool.{Bool, true, false}
-use mathlib.Core.Logic.{_⊎_, inl, inr, ⊎-elim}
+use mathlib.Core.Logic.{inl, inr}
 use mathlib.Core.List.{List, [], _∷_, _++_, map, map-append}
 use native.Mathlib.Numerals.{add-one}
 use native.Mathlib.Omega.{arith}
@@ -13,11 +13,11 @@ use lib.Seq.{take-suc, take-all}
 use borrow.Author.Tests.{eq-eqb, ne-eqb, le-leb, lt-leb, lt-ltb, le-ltb}
 use Rattle.meaning.specs.Words.{_<?_, if_then_else_, met, first}
 use Rattle.meaning.specs.Water.{flowLimit}
-use Rattle.meaning.specs.Blocks.{Time, orWhole, ratiosOf, ratioAt, Block}
+use Rattle.meaning.specs.Blocks.{Time, orWhole, ratiosOf, ratioAt, Block, Held, made, overtops}
 use Rattle.meaning.specs.Results.{Result, peakOf}
-use Rattle.meaning.specs.Run.{heldIn, flowRefusal, Run, begun, withResult, flowRefusals, Which, Every, Only, resultsOf, Worked, Stopped, Done, workedUnder, worked}
+use Rattle.meaning.specs.Run.{takenBy, flowRefusal, Run, begun, withResult, flowRefusals, Which, Every, Only, resultsOf, Worked, Stopped, Done, workedUnder, worked}
 use Rattle.passes.specs.Scripts.{Script, Fails, Ends, Starts, Closes, scriptOf, stoppedUnless, play, worked-plays}
-use Rattle.passes.specs.Apart.{comesFirst, sooner, apart, ratioCount}
+use Rattle.passes.specs.Apart.{rankOf, comesFirst, sooner, apart, ratioCount}
 use Rattle.passes.specs.InOrder.{Past, After, Begun, deck-begun}
 
 if-same : {A : Type 0} (t : Bool) (a : A) → (if t then a else a) ≡ a
@@ -28,44 +28,64 @@ if-same false a = refl
 sooner-same : (number line : ℕ) → sooner (Stopped number line) (Stopped number line) ≡ Stopped number line
 sooner-same number line = if-same (comesFirst number line number line) (Stopped number line)
 
--- 13 at a line comes before what stands past it.
-first-past : (line number line′ : ℕ) → 0 < line → Past line number line′ → (comesFirst 13 line number line′ ≡ true) × (comesFirst number line′ 13 line ≡ false)
+-- A FLOW'S REFUSAL, 13 or 20, by its rank: on a line it comes before what stands past it.
+abbrev OfFlow : ℕ → Type 0
+OfFlow flow = rankOf flow ≡ 13
+
+first-past : (flow line number line′ : ℕ) → OfFlow flow → 0 < line → Past line number line′ → (comesFirst flow line number line′ ≡ true) × (comesFirst number line′ flow line ≡ false)
 unfolding comesFirst if_then_else_
-first-past line number line′ h (inl z) =
+first-past flow line number line′ r h (inl z) =
     let a : line ≡ line′ → ⊥ = λ e. omega arith in
     let b : line′ ≡ line → ⊥ = λ e. omega arith in
     let c : line ≡ 0 → ⊥ = λ e. omega arith in
     (rw (ne-eqb line line′ a, ne-eqb line 0 c, eq-eqb line′ 0 z), rw (ne-eqb line′ line b, eq-eqb line′ 0 z))
-first-past line number line′ h (inr (inl l)) =
+first-past flow line number line′ r h (inr (inl l)) =
     let a : line ≡ line′ → ⊥ = λ e. omega arith in
     let b : line′ ≡ line → ⊥ = λ e. omega arith in
     let c : line ≡ 0 → ⊥ = λ e. omega arith in
     let d : line′ ≡ 0 → ⊥ = λ e. omega arith in
     let k : line ≤ line′ = omega arith in
     (rw (ne-eqb line line′ a, ne-eqb line 0 c, ne-eqb line′ 0 d) (lt-ltb line line′ l), rw (ne-eqb line′ line b, ne-eqb line′ 0 d, ne-eqb line 0 c) (le-ltb line′ line k))
-first-past line number line′ h (inr (inr p)) =
-    let n : 13 ≤ number = omega (arith, p .1) in
-    (rw (eq-eqb line line′ (p .0)) (le-leb 13 number n), rw (eq-eqb line′ line (sym (p .0))) (lt-leb number 13 (p .1)))
+first-past flow line number line′ r h (inr (inr p)) =
+    let n : 13 ≤ rankOf number = omega (arith, p .1) in
+    (rw (eq-eqb line line′ (p .0), r) (le-leb 13 (rankOf number) n), rw (eq-eqb line′ line (sym (p .0)), r) (lt-leb (rankOf number) 13 (p .1)))
 
 abbrev Behind : ℕ → Worked → Type 0
-Behind line w = (sooner (Stopped 13 line) w ≡ Stopped 13 line) × (sooner w (Stopped 13 line) ≡ Stopped 13 line)
+Behind line w = (flow : ℕ) → OfFlow flow → (sooner (Stopped flow line) w ≡ Stopped flow line) × (sooner w (Stopped flow line) ≡ Stopped flow line)
 
 past-behind : (line number line′ : ℕ) → 0 < line → Past line number line′ → Behind line (Stopped number line′)
 unfolding if_then_else_
-past-behind line number line′ h p = let f = first-past line number line′ h p in (rw (f .0), rw (f .1))
+past-behind line number line′ h p flow r = let f = first-past flow line number line′ r h p in (rw (f .0), rw (f .1))
 
--- 13 or nothing.
-met-or-not : (t : Bool) → (met t 13 ≡ 0) ⊎ (met t 13 ≡ 13)
-met-or-not true = inr refl
-met-or-not false = inl refl
+-- of equal rank, so of two the first is answered
+flow-same : (m n line : ℕ) → OfFlow m → OfFlow n → sooner (Stopped m line) (Stopped n line) ≡ Stopped m line
+unfolding comesFirst if_then_else_
+flow-same m n line y z = rw (eq-eqb line line refl, y, z)
 
-pub flow-or-not : (b : Block) (run : Run) → (flowRefusal (heldIn b run) ≡ 0) ⊎ (flowRefusal (heldIn b run) ≡ 13)
-unfolding flowRefusal
-flow-or-not b run = met-or-not (flowLimit <? peakOf (heldIn b run .flow))
+-- A flow's refusal, or nothing: what the flows of runs answer where a block closes.
+abbrev FlowOrNot : ℕ → Type 0
+FlowOrNot zero = Unit
+FlowOrNot (suc n) = OfFlow (suc n)
 
-flows-or-not : (b : Block) (runs : List Run) → (flowRefusals b runs ≡ 0) ⊎ (flowRefusals b runs ≡ 13)
-flows-or-not b [] = inl refl
-flows-or-not b (run ∷ runs) = ⊎-elim (λ z. rw z (flows-or-not b runs)) (λ z. inr (rw z)) (flow-or-not b run)
+met-or-not : (t : Bool) (n : ℕ) → FlowOrNot n → FlowOrNot (met t n)
+met-or-not true n h = h
+met-or-not false n h = tt
+
+first-or-not : (m n : ℕ) → FlowOrNot m → FlowOrNot n → FlowOrNot (first m n)
+first-or-not zero n y z = z
+first-or-not (suc m) n y z = y
+
+flow-or-not : (τ : Time) (b : Block) (taken : Held) → FlowOrNot (flowRefusal τ b taken)
+unfolding flowRefusal rankOf if_then_else_
+flow-or-not τ b taken =
+    let above = flowLimit <? peakOf (made τ b taken .flow) in
+    first-or-not (met (overtops τ b taken) 20) (met above 13) (met-or-not (overtops τ b taken) 20 refl) (met-or-not above 13 refl)
+
+flows-or-not : (b : Block) (runs : List Run) → FlowOrNot (flowRefusals b runs)
+flows-or-not b [] = tt
+flows-or-not b (run ∷ runs) =
+    let taken = takenBy b (run .held) in
+    first-or-not (flowRefusal (run .time) b taken) (flowRefusals b runs) (flow-or-not (run .time) b taken) (flows-or-not b runs)
 
 first-assoc : (l m n : ℕ) → first (first l m) n ≡ first l (first m n)
 first-assoc zero m n = refl
@@ -73,7 +93,7 @@ first-assoc (suc l) m n = refl
 
 flows-append : (b : Block) (runs more : List Run) → flowRefusals b (runs ++ more) ≡ first (flowRefusals b runs) (flowRefusals b more)
 flows-append b [] more = refl
-flows-append b (run ∷ runs) more = rw (flows-append b runs more) (sym (first-assoc (flowRefusal (heldIn b run)) (flowRefusals b runs) (flowRefusals b more)))
+flows-append b (run ∷ runs) more = rw (flows-append b runs more) (sym (first-assoc (flowRefusal (run .time) b (takenBy b (run .held))) (flowRefusals b runs) (flowRefusals b more)))
 
 results-append : (runs more : List Run) → resultsOf (runs ++ more) ≡ resultsOf runs ++ resultsOf more
 results-append [] more = refl
@@ -87,24 +107,26 @@ after-earlier τ line line′ (Ends σ) h a = a
 after-earlier τ line line′ (Starts σ s) h a = absurd a
 after-earlier τ line line′ (Closes b k s) h a = (omega (arith, a .0), a .1)
 
--- What becomes of any runs along the rest of a script is not met before 13 at the line behind which it stands.
+stopped-behind : (number line line′ : ℕ) (w : Worked) → 0 < line → line < line′ → Behind line w → Behind line (stoppedUnless number line′ w)
+stopped-behind zero line line′ w h l b = b
+stopped-behind (suc number) line line′ w h l b = past-behind line (suc number) line′ h (inr (inl l))
+
+-- What becomes of any runs along the rest of a script is not met before a flow's refusal at the line behind which it stands.
 play-behind : (τ : Time) (which : Which) (runs : List Run) (line : ℕ) (s : Script) → 0 < line → After τ line s → Behind line (play which runs s)
 play-behind τ which runs line (Fails number line′) h a = past-behind line number line′ h a
-play-behind τ which runs line (Ends σ) h a = (refl, refl)
+play-behind τ which runs line (Ends σ) h a = λ (flow : ℕ) r. (refl, refl)
 play-behind τ which runs line (Starts σ s) h a = absurd a
 play-behind τ which runs line (Closes b line′ s) h a =
-    ⊎-elim
-    (λ z. rw z (play-behind τ which (map (withResult b) runs) line s h (after-earlier τ line line′ s (a .0) (a .1))))
-    (λ z. rw z (past-behind line 13 line′ h (inr (inl (a .0)))))
-    (flows-or-not b runs)
+    let after = map (withResult b) runs in
+    stopped-behind (flowRefusals b runs) line line′ (play which after s) h (a .0) (play-behind τ which after line s h (after-earlier τ line line′ s (a .0) (a .1)))
 
--- One closing line: 13 of the one lot or of the other, or of neither.
-both-stop : {m n : ℕ} (line : ℕ) {w : Worked} (v u : Worked) → (m ≡ 0) ⊎ (m ≡ 13) → (n ≡ 0) ⊎ (n ≡ 13) → w ≡ sooner v u → Behind line v → Behind line u
+-- One closing line: a flow's refusal of the one lot or of the other, or of neither.
+both-stop : (m n line : ℕ) {w : Worked} (v u : Worked) → FlowOrNot m → FlowOrNot n → w ≡ sooner v u → Behind line v → Behind line u
     → stoppedUnless (first m n) line w ≡ sooner (stoppedUnless m line v) (stoppedUnless n line u)
-both-stop line v u (inl y) (inl z) e behind later = rw (y, z) e
-both-stop line v u (inl y) (inr z) e behind later = rw (y, z) (sym (behind .1))
-both-stop line v u (inr y) (inl z) e behind later = rw (y, z) (sym (later .0))
-both-stop line v u (inr y) (inr z) e behind later = rw (y, z) (sym (sooner-same 13 line))
+both-stop zero zero line v u y z e behind later = e
+both-stop zero (suc n) line v u y z e behind later = sym (behind (suc n) z .1)
+both-stop (suc m) zero line v u y z e behind later = sym (later (suc m) y .0)
+both-stop (suc m) (suc n) line v u y z e behind later = sym (flow-same (suc m) (suc n) line y z)
 
 -- TWO LOTS OF RUNS. Which ratios were chosen matters only where a script starts.
 module _ (τ : Time) (which₁ which₂ which₃ : Which) where
@@ -115,7 +137,7 @@ module _ (τ : Time) (which₁ which₂ which₃ : Which) where
   play-both runs more line (Closes b line′ s) a =
       let p : 0 < line′ = omega (arith, a .0) in
       rw (flows-append b runs more, map-append (withResult b) runs more)
-      (both-stop line′ (play which₂ (map (withResult b) runs) s) (play which₃ (map (withResult b) more) s) (flows-or-not b runs) (flows-or-not b more)
+      (both-stop (flowRefusals b runs) (flowRefusals b more) line′ (play which₂ (map (withResult b) runs) s) (play which₃ (map (withResult b) more) s) (flows-or-not b runs) (flows-or-not b more)
       (play-both (map (withResult b) runs) (map (withResult b) more) line′ s (a .1))
       (play-behind τ which₂ (map (withResult b) runs) line′ s p (a .1))
       (play-behind τ which₃ (map (withResult b) more) line′ s p (a .1)))
