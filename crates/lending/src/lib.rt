@@ -7,7 +7,7 @@ ghost use lib.ListN.{length, take, replicate};
 ghost use Rattle.meaning.specs.Blocks.{orWhole};
 ghost use Rattle.meaning.specs.Run.{mostBlocks};
 ghost use Rattle.blocks.specs.Meant.{ratiosIs};
-ghost use Rattle.passes.specs.Apart.{comesFirst};
+ghost use Rattle.passes.specs.Apart.{rankOf, comesFirst};
 ghost use Rattle.lending.specs.Lent.{ordinatesFrom, recordsFrom};
 ghost use Rattle.lending.specs.Sooner.{soonerOf};
 use blocks::Ratios;
@@ -53,12 +53,22 @@ pub fn clear_from(ordinates: &mut [u64], from: usize)
     slices::zero_words(&mut ordinates[from..]);
 }
 
-// Whether of two refusals the first one is met first: on an earlier line, or on the same line by a number that is not above. Line 0 is that of a missing ZZ, and comes last.
+// The rank of a refusal on its line: its number, but 20, which flows decide, has the place of 13.
+fn rank_of(number: u64) -> u64
+    ensures { λ r. ⌜ r ≡ rankOf number ⌝ }
+{
+    if number == 20 {
+        return 13;
+    }
+    number
+}
+
+// Whether of two refusals the first one is met first: on an earlier line, or on the same line by a rank that is not above. Line 0 is that of a missing ZZ, and comes last.
 fn is_first(number: u64, line: u64, other: u64, there: u64) -> bool
     ensures { λ r. ⌜ r ≡ comesFirst number line other there ⌝ }
 {
     if line == there {
-        return number <= other;
+        return rank_of(number) <= rank_of(other);
     }
     if line == 0 {
         return false;
