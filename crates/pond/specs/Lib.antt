@@ -1,0 +1,11 @@
+-- What a pond's table is, and the laws of level-pool routing.
+pub mod Tables
+pub mod Interpolation
+pub mod Outflows
+pub mod Limits
+pub mod Hundredths
+pub mod Spans
+pub mod Turns
+pub mod Pools
+pub mod Balance
+pub mod Sheet

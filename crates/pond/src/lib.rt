@@ -1,0 +1,244 @@
+// Ponds: level-pool routing by modified Puls, in place: a hydrograph of inflows becomes that of the outflows. And refusal 19, of a pond's table.
+ghost use mathlib.Core.Path.{_≡_};
+ghost use mathlib.Core.Bool.{_||_};
+ghost use mathlib.Core.List.{_++_};
+ghost use Prim.Native.Nat.{_+_, _*_, _/_, _≤_, _<_};
+ghost use lib.ListN.{length, take, drop};
+ghost use Rattle.sequences.specs.Bounds.{AllUpTo};
+ghost use Rattle.meaning.specs.Words.{_<?_};
+ghost use Rattle.meaning.specs.Water.{flowLimit};
+ghost use Rattle.meaning.specs.Records.{mostOrdinates};
+ghost use Rattle.meaning.specs.Pool.{poolRow, rowsOf, wOf, rowBreaks, rowsBreak, tableBreaks, wAfter, pondedOf, overtopped};
+ghost use Rattle.pond.specs.Tables.{PondTable, rowAt};
+ghost use Rattle.pond.specs.Limits.{Interval};
+ghost use Rattle.pond.specs.Spans.{SpanAt, Reached, Found, outflowIn, Graded};
+ghost use Rattle.pond.specs.Turns.{poolOf, outflowsAfter, aboveAfter};
+
+// THE TABLE. Whether a row breaks a rule behind the one before it. Rows are in hundredths, as SV and SQ list them.
+fn row_breaks(m: u64, sv: u64, sq: u64, next_sv: u64, next_sq: u64) -> bool
+    requires { ⌜ (m ≤ 1_440) × («next_sv» ≤ 9_999_999) × («next_sq» ≤ 10_000_000) ⌝ }
+    ensures { λ r. ⌜ r ≡ rowBreaks m (poolRow sv sq) (poolRow «next_sv» «next_sq») ⌝ }
+{
+    if next_sv <= sv {
+        return true;
+    }
+    if next_sq < sq {
+        return true;
+    }
+    1_452 * next_sv < m * next_sq
+}
+
+// Whether any row behind the first does, which is 0, 0.
+fn rows_break(m: u64, svs: &[u64], sqs: &[u64]) -> bool
+    requires { ⌜ (m ≤ 1_440) × (length (now svs) ≡ length (now sqs)) ⌝ }
+    requires { ⌜ AllUpTo 9_999_999 (now svs) ⌝ }
+    requires { ⌜ AllUpTo 10_000_000 (now sqs) ⌝ }
+    ensures { λ r. ⌜ r ≡ rowsBreak m (poolRow 0 0) (rowsOf (drop 1 (now (svs .entry))) (drop 1 (now (sqs .entry)))) ⌝ }
+{
+    let mut sv = 0;
+    let mut sq = 0;
+    let mut j = 1;
+    while j < svs.len() {
+        let next_sv = svs[j];
+        let next_sq = sqs[j];
+        if row_breaks(m, sv, sq, next_sv, next_sq) {
+            return true;
+        }
+        sv = next_sv;
+        sq = next_sq;
+        j += 1;
+    }
+    false
+}
+
+// Refusal 19, of values within their limits.
+pub fn table_breaks(m: u64, svs: &[u64], sqs: &[u64]) -> bool
+    requires { ⌜ m ≤ 1_440 ⌝ }
+    requires { ⌜ AllUpTo 9_999_999 (now svs) ⌝ }
+    requires { ⌜ AllUpTo 10_000_000 (now sqs) ⌝ }
+    ensures { λ r. ⌜ r ≡ tableBreaks m (now (svs .entry)) (now (sqs .entry)) ⌝ }
+{
+    if svs.len() != sqs.len() {
+        return true;
+    }
+    if svs.len() < 2 {
+        return true;
+    }
+    if svs[0] != 0 {
+        return true;
+    }
+    if sqs[0] != 0 {
+        return true;
+    }
+    rows_break(m, svs, sqs)
+}
+
+// SPANS. A row and the next one: its place, W at both, its Q, and by how much Q and W rise to the next one, in hundredths of a cfs and of what W is then. All rows are
+// multiples of 600,000, and so the outflow between them asks for no product above 64 bits.
+struct Span {
+    row: usize,
+    low: u64,
+    high: u64,
+    out: u64,
+    more: u64,
+    rise: u64,
+}
+
+// W of a row.
+fn w_at(m: u64, svs: &[u64], sqs: &[u64], row: usize) -> u64
+    requires { ⌜ PondTable m (now svs) (now sqs) ⌝ }
+    requires { ⌜ row < length (now svs) ⌝ }
+    ensures { λ r. ⌜ r ≡ wOf m (rowAt (now (svs .entry)) (now (sqs .entry)) row) ⌝ }
+{
+    600_000 * (1_452 * svs[row] + m * sqs[row])
+}
+
+// The span from a row on.
+fn span_at(m: u64, svs: &[u64], sqs: &[u64], row: usize) -> Span
+    requires { ⌜ PondTable m (now svs) (now sqs) ⌝ }
+    requires { ⌜ row + 1 < length (now svs) ⌝ }
+    ensures { λ r. ⌜ (r .row ≡ row) × SpanAt m (now (svs .entry)) (now (sqs .entry)) r ⌝ }
+{
+    let next = row + 1;
+    let more = sqs[next] - sqs[row];
+    let rise = 1_452 * (svs[next] - svs[row]) + m * more;
+    let low = w_at(m, svs, sqs, row);
+    Span {
+        row,
+        low,
+        high: low + 600_000 * rise,
+        out: 600_000 * sqs[row],
+        more,
+        rise,
+    }
+}
+
+// From a row that W is not below, up to the one whose next row W is not above, or to the last but one.
+fn climb(m: u64, svs: &[u64], sqs: &[u64], row: usize, w: u64) -> usize
+    requires { ⌜ PondTable m (now svs) (now sqs) ⌝ }
+    requires { ⌜ (row + 1 < length (now svs)) × (wOf m (rowAt (now svs) (now sqs) row) ≤ w) ⌝ }
+    ensures { λ r. ⌜ Reached m (now (svs .entry)) (now (sqs .entry)) r w ⌝ }
+{
+    let mut k = row;
+    while k + 2 < svs.len() {
+        if w <= w_at(m, svs, sqs, k + 1) {
+            return k;
+        }
+        k += 1;
+    }
+    k
+}
+
+// From a row whose next row W is not above, down to the one that W is not below.
+fn sink(m: u64, svs: &[u64], sqs: &[u64], row: usize, w: u64) -> usize
+    requires { ⌜ PondTable m (now svs) (now sqs) ⌝ }
+    requires { ⌜ (row + 1 < length (now svs)) × (w ≤ wOf m (rowAt (now svs) (now sqs) (row + 1))) ⌝ }
+    ensures { λ r. ⌜ Reached m (now (svs .entry)) (now (sqs .entry)) r w ⌝ }
+{
+    let mut k = row;
+    while 0 < k {
+        if w_at(m, svs, sqs, k) <= w {
+            return k;
+        }
+        k -= 1;
+    }
+    k
+}
+
+// The span on which W lies, from one that it may have left; the last one if W is above all.
+fn seek(m: u64, svs: &[u64], sqs: &[u64], s: Span, w: u64) -> Span
+    requires { ⌜ PondTable m (now svs) (now sqs) ⌝ }
+    requires { ⌜ SpanAt m (now svs) (now sqs) s ⌝ }
+    ensures { λ r. ⌜ Found m (now (svs .entry)) (now (sqs .entry)) r w ⌝ }
+{
+    if w < s.low {
+        let row = sink(m, svs, sqs, s.row, w);
+        return span_at(m, svs, sqs, row);
+    }
+    if s.high < w {
+        let row = climb(m, svs, sqs, s.row, w);
+        return span_at(m, svs, sqs, row);
+    }
+    s
+}
+
+// THE OUTFLOW. A part of what Q rises by, rounded down: as much as `part` is of what W rises by.
+fn share(more: u64, part: u64, rise: u64) -> u64
+    requires { ⌜ (0 < rise) × (rise ≤ 28_919_998_548) × (more * part ≤ 289_199_985_480_000_000) ⌝ }
+    ensures { λ r. ⌜ r ≡ more * part / rise ⌝ }
+{
+    more * part / rise
+}
+
+// At W on a span, or above the last one.
+fn outflow_at(s: Span, w: u64) -> u64
+    requires { ⌜ Graded s w ⌝ }
+    ensures { λ r. ⌜ r ≡ outflowIn s w ⌝ }
+{
+    if s.high < w {
+        return s.out + 600_000 * s.more;
+    }
+    let x = w - s.low;
+    s.out + s.more * (x / s.rise) + share(s.more, x % s.rise, s.rise)
+}
+
+// Whether W is above the last row, or was before: `high` is W of the last row, or of one that W is not above.
+fn is_over(over: bool, high: u64, w: u64) -> bool
+    ensures { λ r. ⌜ r ≡ ((high <? w) || over) ⌝ }
+{
+    if high < w {
+        return true;
+    }
+    over
+}
+
+// W after an interval.
+fn w_after(m: u64, w: u64, old_in: u64, new_in: u64, old_out: u64) -> u64
+    requires { ⌜ (w ≤ 5_184_000_000_000_000_000) × Interval m (poolOf w «old_in» «old_out») «new_in» ⌝ }
+    ensures { λ r. ⌜ r ≡ wAfter m (poolOf w «old_in» «old_out») «new_in» ⌝ }
+{
+    w + m * (old_in + new_in) - 2 * m * old_out
+}
+
+// The ordinates behind the first, whose inflow was `first`.
+fn pass_on(q: &mut [u64], m: u64, svs: &[u64], sqs: &[u64], first: u64) -> bool
+    requires { ⌜ PondTable m (now svs) (now sqs) ⌝ }
+    requires { ⌜ (0 < length (now q)) × (length (now q) ≤ mostOrdinates) × (first ≤ flowLimit) ⌝ }
+    requires { ⌜ AllUpTo flowLimit (now q) ⌝ }
+    ensures { λ _. ⌜ now (q .exit) ≡ take 1 (now (q .entry)) ++ outflowsAfter m (rowsOf (now (svs .entry)) (now (sqs .entry))) (poolOf 0 first 0) (drop 1 (now (q .entry))) ⌝ }
+    ensures over { λ r. ⌜ r ≡ aboveAfter m (rowsOf (now (svs .entry)) (now (sqs .entry))) (poolOf 0 first 0) (drop 1 (now (q .entry))) ⌝ }
+{
+    let mut w = 0;
+    let mut old_in = first;
+    let mut old_out = 0;
+    let mut over = false;
+    let mut s = span_at(m, svs, sqs, 0);
+    let mut i = 1;
+    while i < q.len() {
+        let new_in = q[i];
+        w = w_after(m, w, old_in, new_in, old_out);
+        s = seek(m, svs, sqs, s, w);
+        over = is_over(over, s.high, w);
+        old_in = new_in;
+        old_out = outflow_at(s, w);
+        q[i] = old_out;
+        i += 1;
+    }
+    over
+}
+
+// A hydrograph through a pond, in place: its outflows, and whether W ever passed the last row, which is refusal 20.
+pub fn pass_pool(q: &mut [u64], m: u64, svs: &[u64], sqs: &[u64]) -> bool
+    requires { ⌜ PondTable m (now svs) (now sqs) ⌝ }
+    requires { ⌜ length (now q) ≤ mostOrdinates ⌝ }
+    requires { ⌜ AllUpTo flowLimit (now q) ⌝ }
+    ensures { λ _. ⌜ now (q .exit) ≡ pondedOf m (rowsOf (now (svs .entry)) (now (sqs .entry))) (now (q .entry)) ⌝ }
+    ensures over { λ r. ⌜ r ≡ overtopped m (rowsOf (now (svs .entry)) (now (sqs .entry))) (now (q .entry)) ⌝ }
+{
+    if q.len() == 0 {
+        return false;
+    }
+    let first = q[0];
+    q[0] = 0;
+    pass_on(q, m, svs, sqs, first)
+}
