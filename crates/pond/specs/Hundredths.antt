@@ -3,18 +3,12 @@
 --     between-cut      the fraction, cut
 --     divided-first    a product divided is the quotient's multiple and the remainder's, divided
 --     between-divided  both: what the code reckons is the outflow
---     w-hundredths     W of a row is 600,000 times that of its hundredths
---     row-hundredths   19's rules, asked of hundredths
+--     w-hundredths     W of a row is 600,000 times that of its hundredths; w-rises: and rises so to that of the next one
 use Prim.Native.Nat.{ℕ, _+_, _-_, _*_, _/_, _%_, _≤_, _<_}
 use mathlib.Core.Path.{_≡_, ap, sym, _∙_}
-use mathlib.Core.Bool.{_||_}
-use mathlib.Core.Logic.{⊎-elim}
 use native.Mathlib.Nat.{mul-add, mul-assoc, mul-left-comm, div-add-mod, mul-add-div, mul-div-mul-left}
 use native.Mathlib.Omega.{arith}
-use borrow.Author.Tests.{le-leb, lt-leb, lt-ltb, le-ltb}
-use Rattle.sequences.specs.Choices.{below-or-not}
-use Rattle.meaning.specs.Words.{_≤?_, _<?_}
-use Rattle.meaning.specs.Pool.{PoolRow, poolRow, wOf, rowBreaks, between}
+use Rattle.meaning.specs.Pool.{PoolRow, poolRow, wOf, between}
 
 module _ (m : ℕ) (row next : PoolRow) (more rise w : ℕ) (flows : row .q + 600_000 * more ≡ next .q) (levels : wOf m row + 600_000 * rise ≡ wOf m next) where
   pub between-cut : between m row next w ≡ row .q + more * (w - wOf m row) / rise
@@ -43,21 +37,8 @@ pub w-hundredths : (m sv sq : ℕ) → wOf m (poolRow sv sq) ≡ 600_000 * (1_45
 unfolding wOf
 w-hundredths m sv sq = omega arith
 
-leb-times : (a b : ℕ) → (a * 600_000 ≤? b * 600_000) ≡ (a ≤? b)
-leb-times a b =
-    ⊎-elim
-    (λ h. let k : b * 600_000 < a * 600_000 = omega arith in rw (lt-leb a b h, lt-leb (a * 600_000) (b * 600_000) k))
-    (λ h. let k : a * 600_000 ≤ b * 600_000 = omega arith in rw (le-leb a b h, le-leb (a * 600_000) (b * 600_000) k))
-    (below-or-not b a)
-
-ltb-times : (a b : ℕ) → (a * 600_000 <? b * 600_000) ≡ (a <? b)
-ltb-times a b =
-    ⊎-elim
-    (λ h. let k : a * 600_000 < b * 600_000 = omega arith in rw (lt-ltb a b h, lt-ltb (a * 600_000) (b * 600_000) k))
-    (λ h. let k : b * 600_000 ≤ a * 600_000 = omega arith in rw (le-ltb a b h, le-ltb (a * 600_000) (b * 600_000) k))
-    (below-or-not a b)
-
-pub row-hundredths : (m sv sq sv′ sq′ : ℕ) → rowBreaks m (poolRow sv sq) (poolRow sv′ sq′) ≡ ((sv′ ≤? sv) || (sq′ <? sq) || (1_452 * sv′ <? m * sq′))
-unfolding rowBreaks
-row-hundredths m sv sq sv′ sq′ =
-    rw (← mul-assoc 1_452 sv′ 600_000, ← mul-assoc m sq′ 600_000, leb-times sv′ sv, ltb-times sq′ sq, ltb-times (1_452 * sv′) (m * sq′))
+pub w-rises : (m sv sq sv′ sq′ : ℕ) → sv ≤ sv′ → sq ≤ sq′ → wOf m (poolRow sv sq) + 600_000 * (1_452 * (sv′ - sv) + m * (sq′ - sq)) ≡ wOf m (poolRow sv′ sq′)
+w-rises m sv sq sv′ sq′ v q =
+    let same : sq + (sq′ - sq) ≡ sq′ = omega arith in
+    let flows : m * sq + m * (sq′ - sq) ≡ m * sq′ = rw (← mul-add m sq (sq′ - sq), same) in
+    omega (arith, w-hundredths m sv sq, w-hundredths m sv′ sq′)

@@ -3,6 +3,7 @@ pub mod Tables
 pub mod Interpolation
 pub mod Outflows
 pub mod Limits
+pub mod Refusals
 pub mod Hundredths
 pub mod Spans
 pub mod Turns

@@ -1,10 +1,9 @@
 -- A pond's hydrograph is as long as its inflow, and every flow of it at most the last row's Q and so within the limit: a pond never meets 13. And no W passes 64 bits.
 --     ponded-length                 as many outflows as inflows
 --     ponded-last, ponded-within    none above the last row's Q; none above the limit of a flow (row-flow: nor is any row's Q)
---     row-limit                     W of a row is at most 17,351,999,128,800,000, which is below 2 to the power 54
+--     w-limit, row-limit            W of a row is at most 17,351,999,128,800,000, which is below 2 to the power 54
 --     Interval                      an interval: what it starts from, within what an interval may bring (inflow-limit) from now on
 --     w-after-whole, w-after-limit  nothing is subtracted below zero, and W grows by what comes in at most
---     pools-limit                   so at ordinate k (the first is 0) W is at most k times 17,280,000,000,000,000, which is below 2 to the power 63 for 300 ordinates
 use Prim.Native.Nat.{ℕ, zero, suc, _+_, _-_, _*_, _≤_, zero-le}
 use mathlib.Core.Path.{_≡_, refl, ap}
 use mathlib.Core.Bool.{false}
@@ -14,7 +13,7 @@ use native.Mathlib.Omega.{arith}
 use lib.ListN.{length, getD}
 use Rattle.sequences.specs.Bounds.{AllUpTo}
 use Rattle.meaning.specs.Water.{flowLimit}
-use Rattle.meaning.specs.Pool.{PoolRow, rowsOf, wOf, rulesBreak, outflowAt, Pool, poolStart, wAfter, poolAfter, poolsFrom, poolsOf, outflowsOf, pondedOf}
+use Rattle.meaning.specs.Pool.{PoolRow, poolRow, rowsOf, wOf, rulesBreak, Pool, poolStart, wAfter, poolAfter, poolsFrom, outflowsOf, pondedOf}
 use Rattle.pond.specs.Tables.{PondTable, paired, ruled, rowIn, rowAt, row-at}
 use Rattle.pond.specs.Outflows.{lastQ, outflow-last}
 
@@ -40,16 +39,19 @@ unfolding pondedOf
 ponded-last m rows e [] k = zero-le
 ponded-last m rows e (x ∷ xs) k = from-last m rows e (poolStart x) xs zero-le k
 
+pub w-limit : (m sv sq : ℕ) → m ≤ 1_440 → sv ≤ 9_999_999 → sq ≤ 10_000_000 → wOf m (poolRow sv sq) ≤ 17_351_999_128_800_000
+unfolding wOf
+w-limit m sv sq minutes volume outflow =
+    let q : sq * 600_000 ≤ 6_000_000_000_000 = omega arith in
+    let flows : m * (sq * 600_000) ≤ 1_440 * 6_000_000_000_000 = mul-le-mul minutes q in
+    omega arith
+
 module _ (m : ℕ) (svs sqs : List ℕ) (t : PondTable m svs sqs) where
   pub row-flow : (j : ℕ) → rowIn (rowsOf svs sqs) j .q ≤ flowLimit
   row-flow j = rw (row-at svs sqs (paired m svs sqs t) j) (omega (arith, t .outflowsUp j))
 
   pub row-limit : (j : ℕ) → wOf m (rowAt svs sqs j) ≤ 17_351_999_128_800_000
-  unfolding wOf
-  row-limit j =
-      let q : getD sqs j 0 * 600_000 ≤ 6_000_000_000_000 = omega (arith, t .outflowsUp j) in
-      let flows : m * (getD sqs j 0 * 600_000) ≤ 1_440 * 6_000_000_000_000 = mul-le-mul (t .minutes) q in
-      omega (arith, t .volumesUp j)
+  row-limit j = w-limit m (getD svs j 0) (getD sqs j 0) (t .minutes) (t .volumesUp j) (t .outflowsUp j)
 
 pub ponded-within : (m : ℕ) (svs sqs xs : List ℕ) → PondTable m svs sqs → AllUpTo flowLimit (pondedOf m (rowsOf svs sqs) xs)
 ponded-within m svs sqs xs t k =

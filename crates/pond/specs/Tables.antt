@@ -1,6 +1,6 @@
 -- A pond's table that 19 does not refuse, and what its rules give.
 --     PondTable              the table, of values within the limits of their cards; two-rows, paired, ruled: 19's three parts
---     Follows                a row behind another one: W rises, Q does not fall, and 2M·Q is at most W (follows: by the rules)
+--     Follows                a row behind another one: V and W rise, Q does not fall, and 2M·Q is at most W (follows: by the rules)
 --     Kept                   rows from one on that keep the rules; kept-next and kept-rest take the next one off
 --     rules-kept             all rows keep them, and W of the first is 0
 --     rowIn, rowAt           a row by its place, in the rows and from what SV and SQ list: row-at, count-rows
@@ -43,6 +43,7 @@ module _ (m : ℕ) (svs sqs : List ℕ) (t : PondTable m svs sqs) where
   ruled = parts .2
 
 pub record Follows (m : ℕ) (row next : PoolRow) : Type 0 where
+  pub fills : row .v < next .v
   pub rises : wOf m row < wOf m next
   pub grows : row .q ≤ next .q
   pub holds : 2 * m * next .q ≤ wOf m next
@@ -56,7 +57,7 @@ follows m row next e =
     let q : row .q ≤ next .q = ltb-false (next .q) (row .q) (both .1) in
     let held : m * next .q ≤ 1_452 * next .v = ltb-false (1_452 * next .v) (m * next .q) (apart .1) in
     let more : m * row .q ≤ m * next .q = mul-le-mul-left m q in
-    record { rises = omega arith; grows = q; holds = omega arith }
+    record { fills = v; rises = omega arith; grows = q; holds = omega arith }
 
 pub record Kept (m : ℕ) (row : PoolRow) (rows : List PoolRow) : Type 0 where
   pub held : 2 * m * row .q ≤ wOf m row

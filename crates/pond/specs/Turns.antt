@@ -1,32 +1,21 @@
--- The loops. Over the rows of a table, and over the ordinates behind the first, of a pool that stands at W with an inflow and an outflow.
---     rows-turn, rows-done          a row more is asked whether it breaks a rule, and behind the last nothing does
+-- The loop over the ordinates behind the first, of a pool that stands at W with an inflow and an outflow.
 --     poolOf, poolsAfter            a pool, and the pools behind it
 --     outflowsAfter, aboveAfter     what flows out there, and whether any is above the last row
 --     ponded-none, ponded-first     no ordinate, and the first one
 --     outflow-turn, above-turn      an ordinate more
-use Prim.Native.Nat.{ℕ, suc, _+_, _≤_, _<_, zero-le}
+use Prim.Native.Nat.{ℕ, suc, _+_, _<_, zero-le}
 use mathlib.Core.Path.{_≡_, refl, ap}
 use mathlib.Core.Bool.{Bool, true, false, _||_}
 use mathlib.Core.List.{List, [], _∷_, _++_}
 use native.Mathlib.Nat.{le-refl}
 use native.Mathlib.Numerals.{add-one}
 use native.Mathlib.Omega.{arith}
-use lib.ListN.{length, getD, set, take, drop, drop-of-length-le}
+use lib.ListN.{length, getD, set, take, drop}
 use lib.Seq.{drop-cons, drop-set-lt}
 use borrow.Author.Tests.{le-ltb}
 use Rattle.sequences.specs.Overwriting.{overwrite-one}
 use Rattle.meaning.specs.Words.{_<?_}
-use Rattle.meaning.specs.Pool.{PoolRow, poolRow, rowsOf, rowBreaks, rowsBreak, outflowAt, Pool, poolStart, wAfter, poolAfter, poolsFrom, outflowsOf, pondedOf, lastW, anyAbove, overtopped}
-
-pub rows-turn : (m sv sq : ℕ) (svs sqs : List ℕ) (j : ℕ) → length svs ≡ length sqs → j < length svs
-    → rowsBreak m (poolRow sv sq) (rowsOf (drop j svs) (drop j sqs))
-    ≡ (rowBreaks m (poolRow sv sq) (poolRow (getD svs j 0) (getD sqs j 0)) || rowsBreak m (poolRow (getD svs j 0) (getD sqs j 0)) (rowsOf (drop (j + 1) svs) (drop (j + 1) sqs)))
-rows-turn m sv sq svs sqs j e h =
-    let k : j < length sqs = omega arith in
-    rw (drop-cons svs j 0 h, drop-cons sqs j 0 k, add-one j)
-
-pub rows-done : (m sv sq : ℕ) (svs sqs : List ℕ) (j : ℕ) → length svs ≤ j → rowsBreak m (poolRow sv sq) (rowsOf (drop j svs) (drop j sqs)) ≡ false
-rows-done m sv sq svs sqs j h = rw (drop-of-length-le svs h)
+use Rattle.meaning.specs.Pool.{PoolRow, outflowAt, Pool, poolStart, wAfter, poolAfter, poolsFrom, outflowsOf, pondedOf, lastW, anyAbove, overtopped}
 
 abbrev pub poolOf : (w inflow outflow : ℕ) → Pool
 poolOf w inflow outflow = record { w = w; inflow = inflow; outflow = outflow }

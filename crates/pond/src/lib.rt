@@ -11,7 +11,7 @@ ghost use Rattle.meaning.specs.Records.{mostOrdinates};
 ghost use Rattle.meaning.specs.Pool.{poolRow, rowsOf, wOf, rowBreaks, rowsBreak, tableBreaks, wAfter, pondedOf, overtopped};
 ghost use Rattle.pond.specs.Tables.{PondTable, rowAt};
 ghost use Rattle.pond.specs.Limits.{Interval};
-ghost use Rattle.pond.specs.Spans.{SpanAt, Reached, Found, outflowIn, Graded};
+ghost use Rattle.pond.specs.Spans.{SpanOf, SpanAt, Reached, Found, outflowIn, Graded};
 ghost use Rattle.pond.specs.Turns.{poolOf, outflowsAfter, aboveAfter};
 
 // THE TABLE. Whether a row breaks a rule behind the one before it. Rows are in hundredths, as SV and SQ list them.
@@ -85,32 +85,46 @@ struct Span {
 }
 
 // W of a row.
+fn w_of(m: u64, sv: u64, sq: u64) -> u64
+    requires { ⌜ (m ≤ 1_440) × (sv ≤ 9_999_999) × (sq ≤ 10_000_000) ⌝ }
+    ensures { λ r. ⌜ r ≡ wOf m (poolRow sv sq) ⌝ }
+{
+    600_000 * (1_452 * sv + m * sq)
+}
+
 fn w_at(m: u64, svs: &[u64], sqs: &[u64], row: usize) -> u64
     requires { ⌜ PondTable m (now svs) (now sqs) ⌝ }
     requires { ⌜ row < length (now svs) ⌝ }
     ensures { λ r. ⌜ r ≡ wOf m (rowAt (now (svs .entry)) (now (sqs .entry)) row) ⌝ }
 {
-    600_000 * (1_452 * svs[row] + m * sqs[row])
+    w_of(m, svs[row], sqs[row])
 }
 
-// The span from a row on.
+// The span from a row at that place to the next one.
+fn span_of(m: u64, row: usize, sv: u64, sq: u64, next_sv: u64, next_sq: u64) -> Span
+    requires { ⌜ (m ≤ 1_440) × (sv ≤ «next_sv») × («next_sv» ≤ 9_999_999) × (sq ≤ «next_sq») × («next_sq» ≤ 10_000_000) ⌝ }
+    ensures { λ r. ⌜ (r .row ≡ row) × SpanOf m (poolRow sv sq) (poolRow «next_sv» «next_sq») r ⌝ }
+{
+    let more = next_sq - sq;
+    let rise = 1_452 * (next_sv - sv) + m * more;
+    let low = w_of(m, sv, sq);
+    Span {
+        row,
+        low,
+        high: low + 600_000 * rise,
+        out: 600_000 * sq,
+        more,
+        rise,
+    }
+}
+
 fn span_at(m: u64, svs: &[u64], sqs: &[u64], row: usize) -> Span
     requires { ⌜ PondTable m (now svs) (now sqs) ⌝ }
     requires { ⌜ row + 1 < length (now svs) ⌝ }
     ensures { λ r. ⌜ (r .row ≡ row) × SpanAt m (now (svs .entry)) (now (sqs .entry)) r ⌝ }
 {
     let next = row + 1;
-    let more = sqs[next] - sqs[row];
-    let rise = 1_452 * (svs[next] - svs[row]) + m * more;
-    let low = w_at(m, svs, sqs, row);
-    Span {
-        row,
-        low,
-        high: low + 600_000 * rise,
-        out: 600_000 * sqs[row],
-        more,
-        rise,
-    }
+    span_of(m, row, svs[row], sqs[row], svs[next], sqs[next])
 }
 
 // From a row that W is not below, up to the one whose next row W is not above, or to the last but one.
@@ -162,24 +176,34 @@ fn seek(m: u64, svs: &[u64], sqs: &[u64], s: Span, w: u64) -> Span
     s
 }
 
-// THE OUTFLOW. A part of what Q rises by, rounded down: as much as `part` is of what W rises by.
-fn share(more: u64, part: u64, rise: u64) -> u64
-    requires { ⌜ (0 < rise) × (rise ≤ 28_919_998_548) × (more * part ≤ 289_199_985_480_000_000) ⌝ }
-    ensures { λ r. ⌜ r ≡ more * part / rise ⌝ }
+// THE OUTFLOW. The number itself. The compiler does not see that nothing is changed, and so divides it at once; else it would first test, twice at every ordinate, whether a
+// division of 32 bits will do, which it will for hardly any W.
+fn plain(x: u64, small: u64) -> u64
+    requires { ⌜ small < 4_294_967_296 ⌝ }
+    ensures { λ r. ⌜ r ≡ x ⌝ }
 {
-    more * part / rise
+    small / 4_294_967_296 ^ x
+}
+
+// A part of what Q rises by, rounded down: what `share`, which is `more` times as much of what W rises by, is of `rise`.
+fn round_down(share: u64, rise: u64) -> u64
+    requires { ⌜ (0 < rise) × (rise ≤ 28_919_998_548) × (share ≤ 289_199_985_480_000_000) ⌝ }
+    ensures { λ r. ⌜ r ≡ share / rise ⌝ }
+{
+    share / rise
 }
 
 // At W on a span, or above the last one.
-fn outflow_at(s: Span, w: u64) -> u64
-    requires { ⌜ Graded s w ⌝ }
+fn outflow_at(m: u64, s: Span, w: u64) -> u64
+    requires { ⌜ (m ≤ 1_440) × Graded s w ⌝ }
     ensures { λ r. ⌜ r ≡ outflowIn s w ⌝ }
 {
     if s.high < w {
         return s.out + 600_000 * s.more;
     }
-    let x = w - s.low;
-    s.out + s.more * (x / s.rise) + share(s.more, x % s.rise, s.rise)
+    let x = plain(w - s.low, m);
+    let share = plain(s.more * (x % s.rise), m);
+    s.out + s.more * (x / s.rise) + round_down(share, s.rise)
 }
 
 // Whether W is above the last row, or was before: `high` is W of the last row, or of one that W is not above.
@@ -220,7 +244,7 @@ fn pass_on(q: &mut [u64], m: u64, svs: &[u64], sqs: &[u64], first: u64) -> bool
         s = seek(m, svs, sqs, s, w);
         over = is_over(over, s.high, w);
         old_in = new_in;
-        old_out = outflow_at(s, w);
+        old_out = outflow_at(m, s, w);
         q[i] = old_out;
         i += 1;
     }
