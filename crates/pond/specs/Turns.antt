@@ -1,7 +1,7 @@
 -- The loop over the ordinates behind the first, of a pool that stands at W with an inflow and an outflow.
 --     poolOf, poolsAfter            a pool, and the pools behind it
 --     outflowsAfter, aboveAfter     what flows out there, and whether any is above the last row
---     ponded-none, ponded-first     no ordinate, and the first one
+--     ponded-none                   no ordinate; ponded-first, above-first: the first one
 --     outflow-turn, above-turn      an ordinate more
 use Prim.Native.Nat.{ℕ, suc, _+_, _<_, zero-le}
 use mathlib.Core.Path.{_≡_, refl, ap}
@@ -42,12 +42,15 @@ module _ (m : ℕ) (rows : List PoolRow) where
 
   -- the first outflow is v, the first inflow x
   pub ponded-first : (xs : List ℕ) (v x : ℕ) → 0 < length xs → v ≡ 0 → x ≡ getD xs 0 0
-      → (take 1 (set xs 0 v) ++ outflowsAfter m rows (poolOf 0 x 0) (drop 1 (set xs 0 v)) ≡ pondedOf m rows xs)
-      × (aboveAfter m rows (poolOf 0 x 0) (drop 1 (set xs 0 v)) ≡ overtopped m rows xs)
-  unfolding pondedOf overtopped
+      → take 1 (set xs 0 v) ++ outflowsAfter m rows (poolOf 0 x 0) (drop 1 (set xs 0 v)) ≡ pondedOf m rows xs
+  unfolding pondedOf
   ponded-first [] v x h p q = absurd (omega arith)
-  ponded-first (y ∷ ys) v x h p q =
-      (rw (p, q, pools-after m rows (poolStart y) ys), rw (q, pools-after m rows (poolStart y) ys, le-ltb (lastW m rows) 0 zero-le))
+  ponded-first (y ∷ ys) v x h p q = rw (p, q, pools-after m rows (poolStart y) ys)
+
+  pub above-first : (xs : List ℕ) (v x : ℕ) → 0 < length xs → x ≡ getD xs 0 0 → aboveAfter m rows (poolOf 0 x 0) (drop 1 (set xs 0 v)) ≡ overtopped m rows xs
+  unfolding overtopped
+  above-first [] v x h q = absurd (omega arith)
+  above-first (y ∷ ys) v x h q = rw (q, pools-after m rows (poolStart y) ys, le-ltb (lastW m rows) 0 zero-le)
 
   -- w′, x′ and o′ are the pool's at ordinate i, and v is what is put there
   module _ (q : List ℕ) (i w x o w′ x′ o′ v : ℕ) (h : i < length q) (pw : w′ ≡ wAfter m (poolOf w x o) (getD q i 0)) (px : x′ ≡ getD q i 0) (po : o′ ≡ outflowAt m rows w′) where
