@@ -5,7 +5,7 @@
 --     shape-under       9 to 12, 18 and 19 know no ratio
 --     one-refusal, one-waiting    the refusal of a block that closes, and how many are held then
 --     one-opens, one-ends         what a KK and the ZZ do to such a standing
-use Prim.Native.Nat.{ℕ, _+_, _-_}
+use Prim.Native.Nat.{ℕ, _+_}
 use mathlib.Core.Path.{_≡_, refl}
 use mathlib.Core.List.{List, [], _∷_, _++_}
 use native.Mathlib.Omega.{arith}
