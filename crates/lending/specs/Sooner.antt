@@ -1,5 +1,4 @@
 -- Of two rounds what is met first, as the code tells it.
-use Prim.Native.Nat.{ℕ}
 use mathlib.Core.Bool.{Bool, true, false}
 use Rattle.passes.specs.Apart.{comesFirst}
 use Rattle.turns.specs.declared.Worked.{Worked}

@@ -3,7 +3,6 @@ use mathlib.Core.Path.{refl}
 use native.Mathlib.Nat.{mul-le-mul}
 use native.Mathlib.Omega.{arith}
 use borrow.Author.Tests.{lt-ltb, le-ltb}
-use borrow.Author.Needs.{needs}
 use Rattle.sequences.specs.Choices.{taken, passed}
 use Rattle.lending.specs.Lent.{recordsFrom}
 use Rattle.lending.proofs.records_from.Statement.{statement}

@@ -1,5 +1,5 @@
 -- By whether the two rounds are refused, and which refusal comes first.
-use mathlib.Core.Path.{_≡_, refl, sym, _∙_}
+use mathlib.Core.Path.{_≡_, sym, _∙_}
 use mathlib.Core.Bool.{Bool, true, false}
 use borrow.Author.Needs.{needs}
 use Rattle.turns.specs.declared.Worked.{Worked}
