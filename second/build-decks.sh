@@ -13,7 +13,9 @@ if [ -f "$root/second/check-pairs.c" ]; then
     $cc $flags -o "$out/check-pairs" "$root/second/check-pairs.c"
 fi
 for counter in losses ratios; do
-    $cc $flags -o "$out/$counter" "$root/second/$counter.c" "$root/second/cards.c" "$root/second/bundle.c"
+    $cc $flags -o "$out/$counter" "$root/second/$counter.c" "$root/second/cards.c" \
+        "$root/second/pond.c" "$root/second/bundle.c"
 done
 $cc $flags -o "$out/moves" "$root/second/moves.c" "$root/second/mover.c" "$root/second/bundle.c"
-$cc $flags -o "$out/sheets" "$root/second/sheets.c" "$root/second/cards.c" "$root/second/bundle.c"
+$cc $flags -o "$out/sheets" "$root/second/sheets.c" "$root/second/cards.c" "$root/second/pond.c" \
+    "$root/second/bundle.c"

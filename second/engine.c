@@ -1,13 +1,14 @@
 /* The hydrograph engine; see engine.h.  The first part holds the water
  * (document 01, 'Water, in whole units'; document 02, CR 1, for rain that
  * comes as a total and a pattern, CR 2 for the losses and CR 3 for ratios of
- * the rain), the second the records and their limits, the third the blocks,
- * the passes over the deck and the order of the refusals ('What comes back';
- * CR 4 for the record that says its ratio).
+ * the rain; ponds, CR 6, have a file of their own), the second the records and
+ * their limits, the third the blocks, the passes over the deck and the order of
+ * the refusals ('What comes back'; CR 4 for the record that says its ratio).
  * Functions that can refuse return the refusal's number, 0 if none. */
 #include "engine.h"
 
 #include "cards.h"
+#include "pond.h"
 
 #include <stdbool.h>
 #include <string.h>
@@ -31,7 +32,9 @@ enum refusal {
     NOT_ONE_HELD = 15,
     NO_END = 16,
     SHORT_RESULT_ROOM = 17,
-    NO_PATTERN = 18
+    NO_PATTERN = 18,
+    BAD_TABLE = 19,
+    OVER_TABLE = 20
 };
 
 enum {
@@ -44,8 +47,8 @@ static const uint64_t FLOW_LIMIT = 6000000000000;
 
 /* ---- Water ------------------------------------------------------------ */
 
-/* Values of PI, UI or QI as counted on the cards: ten-thousandths for PI,
- * hundredths for the others. */
+/* Values of a list as counted on the cards: ten-thousandths for PI, hundredths
+ * for UI, QI, SV and SQ. */
 struct list {
     unsigned count;
     uint32_t value[ORDINATE_LIMIT];
@@ -214,6 +217,23 @@ static enum refusal route(const struct routing *card, uint32_t minutes,
     return ACCEPTED;
 }
 
+/* A pond in place. */
+static enum refusal fill_pond(const struct list *storage,
+                              const struct list *outflow, uint32_t minutes,
+                              uint64_t *flow, unsigned nq)
+{
+    const struct pond_cards cards = {
+        storage->count, outflow->count, storage->value, outflow->value
+    };
+    struct pond pond;
+
+    if (!make_pond(&cards, minutes, &pond))
+        return BAD_TABLE;
+    if (!route_pond(&pond, flow, nq))
+        return OVER_TABLE;
+    return ACCEPTED;
+}
+
 struct summary {
     uint64_t peak;
     uint64_t sum;
@@ -260,7 +280,10 @@ enum record {
     REC_UI,
     REC_QI,
     REC_HC,
-    REC_RM
+    REC_RM,
+    REC_RS,
+    REC_SV,
+    REC_SQ
 };
 
 /* Limits are counted in units of the last place, as read_number counts. */
@@ -296,6 +319,8 @@ static const struct form RM_FORM = {
 static const struct rule PI_RULE = { 4, false, 0, 200000 };
 static const struct rule UI_RULE = { 2, false, 0, 9999999 };
 static const struct rule QI_RULE = { 2, false, 0, 10000000 };
+static const struct rule SV_RULE = { 2, false, 0, 9999999 };
+static const struct rule SQ_RULE = { 2, false, 0, 10000000 };
 static const struct rule RATIO_RULE = { 2, false, 1, 999 };
 
 static bool is_text(struct text line, const char *text, unsigned length)
@@ -323,6 +348,9 @@ static enum record identify(struct text line)
     case IDENTIFIER('Q', 'I'): return REC_QI;
     case IDENTIFIER('H', 'C'): return REC_HC;
     case IDENTIFIER('R', 'M'): return REC_RM;
+    case IDENTIFIER('R', 'S'): return REC_RS;
+    case IDENTIFIER('S', 'V'): return REC_SV;
+    case IDENTIFIER('S', 'Q'): return REC_SQ;
     case IDENTIFIER('*', 'F'):
         if (is_text(line, "*FREE", 5))
             return REC_FREE;
@@ -412,6 +440,26 @@ static enum refusal read_ratios(struct text line, bool free_form,
     return ACCEPTED;
 }
 
+/* RS: a word between two numbers, all of which can only be what they are, so
+ * that nothing is kept of them.  The word has no form of its own: whatever
+ * stands in its field is either the word or outside the limits. */
+static enum refusal read_pond(struct text line, bool free_form)
+{
+    struct fields fields;
+    int64_t steps = 0, start = 0;
+
+    if (!split_fields(line, free_form, &fields) || fields.count > 3)
+        return MALFORMED;
+    if (fields.count > 0 && !read_number(fields.at[0], 0, &steps))
+        return MALFORMED;
+    if (fields.count > 2 && !read_number(fields.at[2], 0, &start))
+        return MALFORMED;
+    if (steps != 1 || start != 0 || fields.count < 2
+        || !is_text(fields.at[1], "STOR", 4))
+        return OUT_OF_LIMITS;
+    return ACCEPTED;
+}
+
 /* ---- Blocks and the run ----------------------------------------------- */
 
 enum kind {
@@ -419,7 +467,8 @@ enum kind {
     KIND_RUNOFF = 1,
     KIND_INFLOW = 2,
     KIND_CONFLUENCE = 3,
-    KIND_ROUTING = 4
+    KIND_ROUTING = 4,
+    KIND_POND = 5
 };
 
 /* What the open block's records have said so far. */
@@ -434,6 +483,8 @@ struct block {
     struct list rain;
     struct list unit_graph;
     struct list inflow;
+    struct list storage;
+    struct list outflow;
 };
 
 enum phase {
@@ -477,6 +528,8 @@ static void open_block(struct block *block, struct text name)
     block->rain.count = 0;
     block->unit_graph.count = 0;
     block->inflow.count = 0;
+    block->storage.count = 0;
+    block->outflow.count = 0;
 }
 
 static enum kind kind_of(unsigned seen)
@@ -490,6 +543,8 @@ static enum kind kind_of(unsigned seen)
         return KIND_CONFLUENCE;
     if (seen == bit(REC_RM))
         return KIND_ROUTING;
+    if (seen == (bit(REC_RS) | bit(REC_SV) | bit(REC_SQ)))
+        return KIND_POND;
     return KIND_NONE;
 }
 
@@ -545,8 +600,8 @@ static void hand_out(struct run *run, enum kind kind, uint32_t area,
         hand_out_ordinates(run, flow);
 }
 
-/* Area of the hydrograph that a block leaves in a place.  Confluence and
- * routing find the areas that they take there and behind it. */
+/* Area of the hydrograph that a block leaves in a place.  Confluence, routing
+ * and pond find the areas that they take there and behind it. */
 static uint32_t area_left(const struct run *run, enum kind kind,
                           unsigned place, unsigned taken)
 {
@@ -577,7 +632,7 @@ static enum refusal close_block(struct run *run)
         return NO_PATTERN;
     if (kind == KIND_CONFLUENCE)
         taken = block->combine;
-    else if (kind == KIND_ROUTING)
+    else if (kind == KIND_ROUTING || kind == KIND_POND)
         taken = 1;
     if (taken > run->held)
         return TOO_FEW_HELD;
@@ -602,6 +657,10 @@ static enum refusal close_block(struct run *run)
         break;
     case KIND_ROUTING:
         refusal = route(&block->routing, run->minutes, flow, run->nq);
+        break;
+    case KIND_POND:
+        refusal = fill_pond(&block->storage, &block->outflow, run->minutes,
+                            flow, run->nq);
         break;
     case KIND_NONE:
         break;
@@ -631,12 +690,15 @@ static bool in_place(const struct run *run, enum record record)
     case REC_PI:
     case REC_UI:
     case REC_QI:
+    case REC_SV:
+    case REC_SQ:
         return run->phase == IN_BLOCK;
     case REC_BA:
     case REC_PB:
     case REC_LU:
     case REC_HC:
     case REC_RM:
+    case REC_RS:
         return run->phase == IN_BLOCK && !(run->block.seen & bit(record));
     default:
         return true;
@@ -733,6 +795,17 @@ static enum refusal take_data(struct run *run, enum record record,
     case REC_QI:
         refusal = read_list(line, free_form, &QI_RULE, run->nq,
                             &block->inflow);
+        break;
+    case REC_RS:
+        refusal = read_pond(line, free_form);
+        break;
+    case REC_SV:
+        refusal = read_list(line, free_form, &SV_RULE, ROW_LIMIT,
+                            &block->storage);
+        break;
+    case REC_SQ:
+        refusal = read_list(line, free_form, &SQ_RULE, ROW_LIMIT,
+                            &block->outflow);
         break;
     default:
         break;
@@ -860,9 +933,16 @@ static enum refusal take_pass(struct run *run, struct reader *reader)
     return refusal;
 }
 
-/* Flows alone depend on the ratio: of what the passes are refused for, the
- * earliest line counts, and on one line the smaller number.  Behind a line
- * that was refused in one pass no other has to look. */
+/* What depends on flows, and so on the ratio. */
+static bool is_of_flows(enum refusal refusal)
+{
+    return refusal == FLOW_OVER_LIMIT || refusal == OVER_TABLE;
+}
+
+/* Of what the passes are refused for, the earliest line counts.  On one line
+ * they differ only where some meet a refusal of flows and others, which do not,
+ * come to one that stands behind it.  Behind a line that was refused in one
+ * pass no other has to look. */
 static struct answer run_passes(struct run *run, const uint8_t *deck,
                                 size_t length)
 {
@@ -876,7 +956,7 @@ static struct answer run_passes(struct run *run, const uint8_t *deck,
 
         if (refusal == ACCEPTED)
             continue;
-        if (first == ACCEPTED || reader.line < line || refusal < first)
+        if (first == ACCEPTED || reader.line < line || is_of_flows(refusal))
             first = refusal;
         line = reader.line;
         end = reader.at;

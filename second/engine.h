@@ -1,5 +1,5 @@
-/* The hydrograph engine of document 01 and document 02, CR 1 to CR 4: one
- * deck in, the hydrographs of its blocks out, all in memory that the caller
+/* The hydrograph engine of document 01 and document 02, CR 1 to CR 4 and CR 6:
+ * one deck in, the hydrographs of its blocks out, all in memory that the caller
  * lends. */
 #ifndef ENGINE_H
 #define ENGINE_H

@@ -3,10 +3,10 @@
 # shellcheck shell=sh disable=SC2034
 
 # The sources of the second program, in this folder
-sources='main.c engine.c cards.c mover.c sheet.c'
+sources='main.c engine.c cards.c pond.c mover.c sheet.c'
 
 # The refusals are 1 to this number. Two of them depend on the room that is lent: cases meet them, bundles do not.
-refusals=18
+refusals=20
 room_refusals='1 17'
 
 # The mover's own refusals
