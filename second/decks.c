@@ -1,6 +1,6 @@
 /* The deck writer: seeded test decks for the engine of document 01, with the
-   storm totals, losses and ratios of document 02, CR 1 to CR 3, files of
-   records for the mover of CR 4 and decks for the sheet of CR 5. */
+   storm totals, losses, ratios and ponds of document 02, CR 1 to CR 3 and CR 6,
+   files of records for the mover of CR 4 and decks for the sheet of CR 5. */
 #include <stdio.h>
 #include <stdlib.h>
 #include <string.h>
@@ -27,7 +27,7 @@ static const char help[] =
     "decks pairs SEED COUNT           COUNT pairs of decks, as in a bundle; each pair draws one network\n"
     "                                 in two orders and two manners of writing\n"
     "decks sound SEED COUNT           COUNT lawful decks, as in a bundle\n"
-    "decks damaged SEED COUNT NUMBER  COUNT decks, each with one damage aimed at that refusal (2 to 16, 18)\n"
+    "decks damaged SEED COUNT NUMBER  COUNT decks, each with one damage aimed at that refusal (2 to 16, 18 to 20)\n"
     "decks one SEED INDEX             deck INDEX (from 0) of the bundle of that seed, bare\n"
     "decks big SEED lists [BYTES]                       one long deck of PI, UI and QI lines, bare\n"
     "decks big SEED blocks [BLOCKS [NQ [UNITS [RAIN]]]] one deck of runoff blocks and confluences, bare\n"
@@ -36,6 +36,8 @@ static const char help[] =
     "decks big SEED ratios [RATIOS [BLOCKS [NQ [UNITS [RAIN]]]]] the deck of blocks with 1 to 9 ratios (JR), bare;\n"
     "                                 fewer blocks where 60,000 bytes would be passed\n"
     "decks big SEED routing [BLOCKS [NQ [STEPS]]]       one deck of routings, bare\n"
+    "decks big SEED ponds [BLOCKS [NQ [ROWS]]]          one deck of ponds, bare; fewer blocks where 60,000 bytes\n"
+    "                                 would be passed\n"
     "decks --help                     this text\n"
     "\n"
     "The same seed gives the same bytes on every machine.  Deck number I of a bundle depends on the\n"
@@ -144,7 +146,8 @@ static int pick_refusal(void)
 {
     /* 2 and 14 make long decks, so they come less often */
     static const int usual[] = {
-        3, 3, 4, 4, 5, 5, 5, 6, 6, 6, 7, 7, 7, 8, 8, 9, 9, 9, 10, 10, 11, 11, 12, 12, 13, 13, 13, 15, 15, 16, 18, 18, 18
+        3, 3, 4, 4, 5, 5, 5, 6, 6, 6, 7, 7, 7, 8, 8, 9, 9, 9, 10, 10, 11, 11, 12, 12, 13, 13, 13, 15, 15, 16, 18, 18, 18,
+        19, 19, 19, 20, 20, 20
     };
     int r = rnd(1000);
     if (r < 8) return 2;
@@ -152,16 +155,26 @@ static int pick_refusal(void)
     return usual[rnd((int)(sizeof usual / sizeof usual[0]))];
 }
 
+static int has_pond(void)
+{
+    int i;
+    for (i = 0; i < net.nb; i++)
+        if (net.b[i].kind == 5) return 1;
+    return 0;
+}
+
 static void base_for(int number)
 {
+    int of_flows = number == 13 || number == 20;   /* flows alone depend on the ratio */
+    int ponds = number >= 19 ? pct(85) : number >= 5 && number <= 9 && pct(35), tries = 0;
     fill_to = 0;
-    jr_chance = number == 13 ? 65 : JR_CHANCE;     /* flows alone depend on the ratio */
-    if (number == 14 || (number == 13 && pct(8)) || (number == 18 && pct(4))) {   /* a 201st block needs many before it */
+    jr_chance = of_flows ? 65 : JR_CHANCE;
+    if (number == 14 || (of_flows && pct(8)) || (number >= 18 && pct(4))) {   /* a 201st block needs many before it */
         style_random(&style);
         style.pkm /= 4;
         style.pblank /= 4;
         it_values(12);
-        net_random(&net, between(LIMIT_BLOCKS - 5, LIMIT_BLOCKS - (number == 13)), 0, 3, FLOW_SHARE, 40);
+        net_random(&net, between(LIMIT_BLOCKS - 5, LIMIT_BLOCKS - (number >= 19 ? 4 : number == 13)), 0, 3, FLOW_SHARE, 40);
         deck_write(&deck, &net, &style);
     } else if (number == 11 && pct(40)) {
         style_random(&style);
@@ -171,7 +184,7 @@ static void base_for(int number)
     } else {
         do {
             sound(0);
-        } while (net.nb > 60 && !pct(25));
+        } while ((net.nb > 60 && !pct(25)) || (ponds && !has_pond() && ++tries < 30));
     }
     jr_chance = JR_CHANCE;
 }
@@ -334,8 +347,8 @@ static void moves(uint64_t seed, int count)
 /* each refusal that a deck can meet, as often as any other */
 static int any_refusal(void)
 {
-    int number = between(2, 17);
-    return number == 17 ? 18 : number;
+    int number = between(2, 19);
+    return number >= 17 ? number + 1 : number;
 }
 
 /* Behind ZZ nothing is read: what stands there would be more cards of the last block. */
@@ -438,6 +451,16 @@ static int spoil(int number)                       /* makes one block of the net
             b->pb = pct(50) ? 1 : between(1, LIMIT_PB);
             return 1;
         }
+        if (number == 19 && b->kind == 5) {
+            pond_break(net.m, b, rnd(BREAKS));
+            return 1;
+        }
+        if (number == 20 && b->kind == 5) {        /* hardly any room */
+            b->nsv = b->nsq = 2;
+            b->sv[1] = between(1, 50);
+            b->sq[1] = 0;
+            return 1;
+        }
     }
     return 0;
 }
@@ -476,8 +499,10 @@ static void pairs(uint64_t seed, int count)
             net_random(&net, size, 0, 14, pct(90) ? FLOW_SHARE : FLOW_WILD, 20);
         }
         net_names(&net, distinct);
-        if (pct(8))
-            spoil(pct(35) ? 12 : pct(50) ? 13 : 18);
+        if (pct(12)) {
+            static const int refusals[] = { 12, 13, 18, 19, 20 };
+            spoil(refusals[rnd(5)]);
+        }
         for (tries = 0; tries < 20; tries++) {
             net_shuffle(&net);
             if (net_held(&net) <= LIMIT_HELD)
@@ -743,7 +768,7 @@ int main(int argc, char **argv)
         if (argc != 4 + aimed)
             return usage();
         if (aimed)
-            number = whole(argv[4], 2, 18, "NUMBER");
+            number = whole(argv[4], 2, 20, "NUMBER");
         if (number == 17)                          /* no damage of a deck leads there */
             return usage();
         if (!strcmp(what, "bundle")) {

@@ -1,5 +1,5 @@
 /* Shared types of the deck writer.  All limits and records follow document 01
-   and document 02, CR 1 and CR 3 to CR 5. */
+   and document 02, CR 1 and CR 3 to CR 6. */
 #ifndef DECKS_H
 #define DECKS_H
 
@@ -17,12 +17,16 @@ enum {
     LIMIT_UI = 9999999,       /* 99,999.99 in hundredths */
     LIMIT_QI = 10000000,      /* 100,000 cfs in hundredths */
     LIMIT_BA = 999999,
+    LIMIT_SV = 9999999,       /* 99,999.99 acre-feet in hundredths */
+    LIMIT_SQ = 10000000,      /* 100,000 cfs in hundredths */
+    LIMIT_ROWS = 20,          /* SV and SQ values in a block */
     LIMIT_RATIOS = 9,
     LIMIT_RATIO = 999,        /* 9.99 in hundredths */
     LIMIT_RECORDS = 72000,    /* record bytes of a case */
     LIMIT_MOVER = 80000       /* bytes of a file for the mover, and of its room */
 };
 #define LIMIT_FLOW INT64_C(6000000000000)
+#define FLOW_HUNDREDTH INT64_C(600000)       /* flow units in a hundredth of a cfs */
 
 /* ---- random numbers: splitmix64, the same on every machine ---- */
 void rng_seed(uint64_t seed, uint64_t stream);
@@ -35,15 +39,17 @@ int pct(int p);               /* true p times in a hundred */
 typedef struct {
     unsigned char name[6];
     int nlen;
-    int kind;                 /* 1 runoff, 2 inflow, 3 confluence, 4 routing */
+    int kind;                 /* 1 runoff, 2 inflow, 3 confluence, 4 routing, 5 pond */
     int has_ba, ba;
     int has_pb, pb;           /* a total: the values of PI are its pattern */
     int npi, nui, nqi;
     int lu1, lu2;
     int hc;
     int rn, rk, rx;
+    int nsv, nsq;
     int nch, ch[5];           /* branches, in the order in which they are taken */
     int pi[LIMIT_NQ + 1], ui[LIMIT_UNITS + 1], qi[LIMIT_NQ + 1];
+    int sv[LIMIT_ROWS + 1], sq[LIMIT_ROWS + 1];
 } Block;
 
 typedef struct {
@@ -72,10 +78,19 @@ void net_deepest_last(Net *n);
 void net_deepest_first(Net *n);
 int net_held(const Net *n);        /* most hydrographs held in deck order */
 int rm_pick(int m, int how, int *rn, int *rk, int *rx);
+void net_routing(Net *n, Block *b);
+
+/* ---- ponds ---- */
+enum { PONDS_LIMITED, PONDS_FITTED, PONDS_ANY };
+void net_ponds(Net *n, int how);             /* chooses the tables of all ponds */
+int pond_even_row(int m, int64_t sum, int *v, int *q);   /* a row with W of so many hundredths times M */
+int pond_most_out(int m, int v);             /* the greatest SQ beside such an SV */
+void pond_break(int m, Block *b, int how);   /* a table that breaks a rule */
+enum { BREAKS = 13 };                        /* the ways in which it does */
 
 /* ---- lines and decks ---- */
 enum {
-    T_ID, T_IT, T_JR, T_KK, T_KM, T_BA, T_PB, T_PI, T_LU, T_UI, T_QI, T_HC, T_RM, T_ZZ,
+    T_ID, T_IT, T_JR, T_KK, T_KM, T_BA, T_PB, T_PI, T_LU, T_UI, T_QI, T_HC, T_RM, T_RS, T_SV, T_SQ, T_ZZ,
     T_CONTROL, T_BLANK, T_OTHER
 };
 enum { FIXED, FREE };

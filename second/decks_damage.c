@@ -1,16 +1,15 @@
 /* Damages aimed at one refusal each (document 01, the table of refusals, and
-   document 02, CR 1 and CR 3), blind mutations, and decks that hardly are decks. */
+   document 02, CR 1, CR 3 and CR 6; 19 and 20 have a file of their own), blind
+   mutations, and decks that hardly are decks. */
 #include <stdio.h>
 #include <string.h>
-#include "decks.h"
-
-#define COUNT(a) ((int)(sizeof(a) / sizeof((a)[0])))
+#include "decks_damage.h"
 
 /* ---- places in a deck ---- */
 
-static Line *touched;                              /* the line damaged last */
+Line *touched;
 
-static int find_tag(const Deck *d, int tag)       /* a random line of that record, or -1 */
+int find_tag(const Deck *d, int tag)
 {
     int i, c = 0;
     for (i = 0; i < d->nl; i++)
@@ -24,7 +23,7 @@ static int find_tag(const Deck *d, int tag)       /* a random line of that recor
     return -1;
 }
 
-static int first_tag(const Deck *d, int tag)
+int first_tag(const Deck *d, int tag)
 {
     int i;
     for (i = 0; i < d->nl; i++)
@@ -33,7 +32,7 @@ static int first_tag(const Deck *d, int tag)
     return -1;
 }
 
-static Line *insert(Deck *d, int at, int tag)
+Line *insert(Deck *d, int at, int tag)
 {
     Line *l = &d->l[at];
     int form = at < d->nl ? l->form : d->nl > 0 ? d->l[d->nl - 1].form : FIXED;
@@ -51,14 +50,13 @@ static Line *insert(Deck *d, int at, int tag)
     return l;
 }
 
-static void drop(Deck *d, int at, int count)
+void drop(Deck *d, int at, int count)
 {
     memmove(&d->l[at], &d->l[at + count], (size_t)(d->nl - at - count) * sizeof d->l[0]);
     d->nl -= count;
 }
 
-/* the line of the KK or ZZ that closes the block open at this line */
-static int closing_line(const Deck *d, int at)
+int closing_line(const Deck *d, int at)
 {
     int i;
     for (i = at; i < d->nl; i++)
@@ -67,13 +65,13 @@ static int closing_line(const Deck *d, int at)
     return d->nl;
 }
 
-static int last_line_of_deck(const Deck *d)       /* the ZZ, or the end */
+int last_line_of_deck(const Deck *d)
 {
     int z = first_tag(d, T_ZZ);
     return z < 0 ? d->nl : z;
 }
 
-static void put(Line *l, const Style *s, int nf, const char *a, const char *b, const char *c)
+void put(Line *l, const Style *s, int nf, const char *a, const char *b, const char *c)
 {
     l->nf = nf;
     strcpy(l->f[0], a);
@@ -82,8 +80,7 @@ static void put(Line *l, const Style *s, int nf, const char *a, const char *b, c
     line_compose(l, s);
 }
 
-/* A sound line of that record. */
-static void plain_record(Line *l, const Style *s, const Net *n)
+void plain_record(Line *l, const Style *s, const Net *n)
 {
     int rn, rk, rx;
     switch (l->tag) {
@@ -113,12 +110,14 @@ static void plain_record(Line *l, const Style *s, const Net *n)
     case T_ID: line_text(l, "ID LATE"); break;
     case T_ZZ: line_text(l, "ZZ"); break;
     case T_KM: line_text(l, "KM NOTE"); break;
+    case T_RS: put(l, s, pct(50) ? 2 : 3, "1", "STOR", "0"); break;
+    case T_SV: put(l, s, 2, "", "100", ""); break;
+    case T_SQ: put(l, s, 2, "0", "1", ""); break;
     default: put(l, s, 1, "1", "", ""); break;     /* PI, UI, QI */
     }
 }
 
-/* A block of its own, put in before a KK or ZZ; the lines it took. */
-static int block_in(Deck *d, int at, int tag, const Style *s, const char *a, const char *b, const char *c)
+int block_in(Deck *d, int at, int tag, const Style *s, const char *a, const char *b, const char *c)
 {
     Line *l = insert(d, at, T_KK);
     unsigned char name[4];
@@ -131,7 +130,21 @@ static int block_in(Deck *d, int at, int tag, const Style *s, const char *a, con
     return 2;
 }
 
-static int boundary(const Deck *d, int before_first)   /* a KK or ZZ line at random */
+/* so many routings, one below another */
+int reaches_in(Deck *d, int at, const Net *n, const Style *s, int blocks)
+{
+    int rn = 1, rk = 1, rx = 0, lines = 0;
+    char a[16], b[16], c[16];
+    rm_pick(n->m, RM_INSIDE, &rn, &rk, &rx);
+    number_write(a, rn, 0, 6, 0);
+    number_write(b, rk, 2, 6, 0);
+    number_write(c, rx, 2, 6, 0);
+    for (; blocks > 0; blocks--)
+        lines += block_in(d, at + lines, T_RM, s, a, b, c);
+    return lines;
+}
+
+int boundary(const Deck *d, int before_first)
 {
     int i, c = 0, skip = before_first ? 0 : 1;
     for (i = 0; i < d->nl; i++)
@@ -213,7 +226,7 @@ static int damage4(Deck *d)
         "XX 1", "KO 5", "IO 1 2", "JD 1", "BF 1 2", "MA 1", "kk UP", "it 60", "zz", "K", "Z", "*", "**",
         "*FREE X", "*FREEX", "*FIXED", "*FREE,", "*free", "*Fix", "*FI", "*FR", "* FREE", "*F REE", "*LIST",
         "*DIAGRAM", "*FREE *FIX", " KK UP", " ZZ", "  ZZ", " *FIX", "K K", ",", "1", ".", "KL", "ZK", "Kk",
-        "IN", "RL 0", "QO 1", "QP 1", "US 1", "UC 1", "PR 1", "PT 1", "PC .5", "pb 1", "jr PREC,1", "JP 1", "J", "P", "DR", "-", "X", "KN NOTE", "/*"
+        "IN", "RL 0", "QO 1", "QP 1", "US 1", "UC 1", "PR 1", "PT 1", "PC .5", "rs 1,STOR", "SE 1", "SS 1", "sv 1", "S", "SL", "ST", "pb 1", "jr PREC,1", "JP 1", "J", "P", "DR", "-", "X", "KN NOTE", "/*"
     };
     int top = last_line_of_deck(d), at;
     if (d->nl == 0)
@@ -305,8 +318,8 @@ static int misplaced_ratios(Deck *d, const Style *s)
 
 static int damage5(Deck *d, const Net *n, const Style *s)
 {
-    static const int data[] = { T_BA, T_PB, T_PI, T_LU, T_UI, T_QI, T_HC, T_RM };
-    static const int once[] = { T_BA, T_PB, T_PB, T_LU, T_HC, T_RM };
+    static const int data[] = { T_BA, T_PB, T_PI, T_LU, T_UI, T_QI, T_HC, T_RM, T_RS, T_SV, T_SQ };
+    static const int once[] = { T_BA, T_PB, T_PB, T_LU, T_HC, T_RM, T_RS, T_RS };
     int it = first_tag(d, T_IT), kk = first_tag(d, T_KK), zz = last_line_of_deck(d), at, i;
     if (it < 0)
         return 0;
@@ -340,7 +353,7 @@ static int damage5(Deck *d, const Net *n, const Style *s)
     case 6:                                        /* no IT */
         drop(d, it, 1);
         return 1;
-    default:                                       /* a second BA, PB, LU, HC or RM */
+    default:                                       /* a second BA, PB, LU, HC, RM or RS */
         at = find_tag(d, once[rnd(COUNT(once))]);
         if (at < 0) return 0;
         i = closing_line(d, at);
@@ -375,6 +388,8 @@ static const struct { int tag, field; const char *text; } too_fine[] = {
     { T_UI, -1, "1.000" }, { T_UI, -1, "0.001" }, { T_QI, -1, "1.000" }, { T_QI, -1, ".125" }, { T_QI, -1, "0.000" },
     { T_HC, 0, "2.0" }, { T_HC, 0, "2.00" }, { T_RM, 0, "1.0" }, { T_RM, 1, "1.000" }, { T_RM, 2, ".200" },
     { T_RM, 2, "0.200" }, { T_RM, 2, ".000" },
+    { T_RS, 0, "1.0" }, { T_RS, 0, "1.00" }, { T_RS, 0, "0.0" }, { T_RS, 2, "0.0" }, { T_RS, 2, ".0" }, { T_RS, 2, "1.0" },
+    { T_SV, -1, "1.000" }, { T_SV, -1, ".000" }, { T_SV, -1, "0.001" }, { T_SQ, -1, "1.000" }, { T_SQ, -1, ".005" }, { T_SQ, -1, "0.000" },
     { T_JR, -1, "1.000" }, { T_JR, -1, "0.005" }, { T_JR, -1, "9.995" }, { T_JR, -1, ".001" }
 };
 
@@ -392,12 +407,12 @@ static int named_fields(int tag)
     switch (tag) {
     case T_IT: return 4;
     case T_BA: case T_PB: case T_HC: return 1;
-    case T_LU: case T_RM: return 3;
+    case T_LU: case T_RM: case T_RS: return 3;
     default: return 10;
     }
 }
 
-static int set_field(Line *l, const Style *s, int k, const char *text)
+int set_field(Line *l, const Style *s, int k, const char *text)
 {
     Line old = *l;
     while (l->nf <= k)
@@ -477,8 +492,8 @@ static int ratios_outside(Deck *d, const Style *s)
 
 static int damage6(Deck *d, const Style *s)
 {
-    static const int data[] = { T_IT, T_BA, T_PB, T_PI, T_LU, T_UI, T_QI, T_HC, T_RM };
-    static const int scant[] = { T_IT, T_BA, T_PB, T_PB, T_LU, T_HC, T_RM };
+    static const int data[] = { T_IT, T_BA, T_PB, T_PI, T_LU, T_UI, T_QI, T_HC, T_RM, T_RS, T_SV, T_SQ };
+    static const int scant[] = { T_IT, T_BA, T_PB, T_PB, T_LU, T_HC, T_RM, T_RS, T_RS };
     int at, k, i;
     Line *l;
     if (pct(22))
@@ -491,6 +506,7 @@ static int damage6(Deck *d, const Style *s)
         l = &d->l[at];
         k = rnd(named_fields(l->tag));
         if (l->tag == T_IT) k = pct(50) ? 0 : 3;
+        if (l->tag == T_RS && pct(80)) k = pct(50) ? 0 : 2;    /* any word of its field 2 is 7 */
         if (named_fields(l->tag) == 10 && l->nf > 0 && pct(80)) k = rnd(l->nf);
         if (l->form == FIXED && pct(40))
             return set_field(l, s, k, misshapen_fixed[rnd(COUNT(misshapen_fixed))]);
@@ -569,7 +585,11 @@ static const struct { int tag, field; const char *text; } outside[] = {
     { T_HC, 0, "1" }, { T_HC, 0, "6" }, { T_HC, 0, "0" }, { T_HC, 0, "" }, { T_HC, 0, "-2" }, { T_HC, 0, "999999999" },
     { T_RM, 0, "0" }, { T_RM, 0, "51" }, { T_RM, 0, "" }, { T_RM, 0, "-1" }, { T_RM, 0, "999999" },
     { T_RM, 1, "0" }, { T_RM, 1, "24.01" }, { T_RM, 1, "" }, { T_RM, 1, "-1.00" }, { T_RM, 1, "25" },
-    { T_RM, 2, ".51" }, { T_RM, 2, "1" }, { T_RM, 2, "-.01" }, { T_RM, 2, "50" }, { T_RM, 2, "0.60" }
+    { T_RM, 2, ".51" }, { T_RM, 2, "1" }, { T_RM, 2, "-.01" }, { T_RM, 2, "50" }, { T_RM, 2, "0.60" },
+    { T_RS, 0, "0" }, { T_RS, 0, "2" }, { T_RS, 0, "" }, { T_RS, 0, "-1" }, { T_RS, 0, "+10" }, { T_RS, 0, "999999" },
+    { T_RS, 2, "1" }, { T_RS, 2, "-1" }, { T_RS, 2, "+2." }, { T_RS, 2, "999999" },
+    { T_SV, -1, "100000" }, { T_SV, -1, "-.01" }, { T_SV, -1, "-1" }, { T_SV, -1, "100000.0" }, { T_SV, -1, "999999999" },
+    { T_SQ, -1, "100000.01" }, { T_SQ, -1, "100001" }, { T_SQ, -1, "-.01" }, { T_SQ, -1, "-5" }, { T_SQ, -1, "9999999.99" }
 };
 
 static int damage7(Deck *d, const Style *s)
@@ -578,6 +598,8 @@ static int damage7(Deck *d, const Style *s)
     int at = find_tag(d, outside[w].tag);
     if (pct(20))
         return ratios_outside(d, s);
+    if (pct(20))
+        return damage7_word(d, s);
     if (at < 0)
         return 0;
     Line *l = &d->l[at];
@@ -591,9 +613,9 @@ static int damage7(Deck *d, const Style *s)
 
 static int damage8(Deck *d, const Net *n, const Style *s)
 {
-    static const int lists[] = { T_PI, T_UI, T_QI };
-    int tag = lists[rnd(3)], at = find_tag(d, tag), have = 0, i, k;
-    int top = tag == T_UI ? LIMIT_UNITS : n->nq;
+    static const int lists[] = { T_PI, T_UI, T_QI, T_SV, T_SQ };
+    int tag = lists[rnd(5)], at = find_tag(d, tag), have = 0, i, k;
+    int top = tag == T_UI ? LIMIT_UNITS : tag >= T_SV ? LIMIT_ROWS : n->nq;
     if (at < 0 && pct(50))
         at = find_tag(d, T_HC);                    /* even in a block that holds no list */
     if (at < 0)
@@ -608,10 +630,12 @@ static int damage8(Deck *d, const Net *n, const Style *s)
             have += d->l[i].nf;
     at = between(at + 1, end);
     int goal = top + 1 + (pct(30) ? rnd(25) : 0);
+    int single = tag >= T_SV && pct(30);           /* one value a line */
     while (have < goal) {
         Line *l = insert(d, at, tag);
         int c = goal - have < 10 ? goal - have : between(1, 10);
         if (pct(60)) c = goal - have < 10 ? goal - have : 10;
+        if (single) c = 1;
         for (k = 0; k < c; k++)
             strcpy(l->f[k], k + 1 < c && pct(30) ? "" : pct(50) ? "0" : "1");
         l->nf = c;
@@ -624,9 +648,11 @@ static int damage8(Deck *d, const Net *n, const Style *s)
 
 /* ---- 9: sets ---- */
 
+enum { POND_SET = 0x380 };                         /* RS, SV and SQ among the records below */
+
 static int damage9(Deck *d, const Net *n, const Style *s)
 {
-    static const int data[] = { T_BA, T_PI, T_LU, T_UI, T_QI, T_HC, T_RM, T_PB };
+    static const int data[] = { T_BA, T_PI, T_LU, T_UI, T_QI, T_HC, T_RM, T_RS, T_SV, T_SQ, T_PB };
     int kk = find_tag(d, T_KK), end, i, has[T_ZZ + 1] = { 0 }, tag;
     if (kk < 0)
         return 0;
@@ -637,19 +663,19 @@ static int damage9(Deck *d, const Net *n, const Style *s)
     switch (rnd(4)) {
     case 0:                                        /* nothing but KK */
         for (i = end - 1; i > kk; i--)
-            if (d->l[i].tag >= T_BA && d->l[i].tag <= T_RM)
+            if (d->l[i].tag >= T_BA && d->l[i].tag <= T_SQ)
                 drop(d, i, 1);
         return 1;
     case 1:                                        /* one of the set taken away */
         if (has[T_PI] && !has[T_PB] && pct(30)) return 0;   /* sooner from a block with a total */
-        tag = data[rnd(7)];                        /* the total itself may be lacking */
+        tag = data[rnd(10)];                       /* the total itself may be lacking */
         if (!has[tag] || (tag == T_BA && has[T_QI])) return 0;
         for (i = end - 1; i > kk; i--)
             if (d->l[i].tag == tag)
                 drop(d, i, 1);
         return 1;
     case 2:                                        /* a foreign one put in */
-        tag = pct(25) ? T_PB : data[rnd(7)];       /* a total belongs to runoff alone */
+        tag = pct(25) ? T_PB : data[rnd(10)];      /* a total belongs to runoff alone */
         if (has[tag] || (tag == T_BA && has[T_QI]) || (tag == T_PB && has[T_PI])) return 0;
         plain_record(insert(d, between(kk + 1, end), tag), s, n);
         return 1;
@@ -657,17 +683,20 @@ static int damage9(Deck *d, const Net *n, const Style *s)
         i = boundary(d, 1);
         if (i < 0) return 0;
         plain_record(insert(d, i++, T_KK), s, n);
-        tag = rnd(256);
-        for (kk = 0; kk < 8; kk++)
+        tag = rnd(1 << COUNT(data));
+        if (pct(70)) tag &= ~POND_SET;
+        else if (pct(70)) tag &= POND_SET;         /* a part of a pond's records */
+        else tag = POND_SET | 1 << rnd(COUNT(data));   /* all of them, and perhaps another one */
+        for (kk = 0; kk < COUNT(data); kk++)
             if (tag >> kk & 1)
                 plain_record(insert(d, i++, data[kk]), s, n);
-        return (tag & 0x7F) != 0x0F && tag != 0x10 && tag != 0x11 && tag != 0x20 && tag != 0x40;
+        return (tag & ~0x400) != 0x0F && tag != 0x10 && tag != 0x11 && tag != 0x20 && tag != 0x40 && tag != POND_SET;
     }
 }
 
 /* ---- 10 to 15: held hydrographs, water, blocks ---- */
 
-static int held_before(const Net *n, int pos)
+int held_before(const Net *n, int pos)
 {
     int i, h = 0;
     for (i = 0; i < pos && i < n->nb; i++) {
@@ -686,8 +715,10 @@ static int damage10(Deck *d, const Net *n, const Style *s)
     case 0:                                        /* the first block takes */
         at = first_tag(d, T_KK);
         if (at < 0) return 0;
-        if (pct(50)) {
+        if (pct(40)) {
             block_in(d, at, T_HC, s, count[rnd(4)], "", "");
+        } else if (pct(50)) {
+            broken_pond_first(d, at, n, s);
         } else {
             rm_pick(n->m, pct(50) ? RM_INSIDE : RM_UNDER, &rn, &rk, &rx);
             number_write(a, rn, 0, 6, 0);
@@ -717,7 +748,7 @@ static int damage10(Deck *d, const Net *n, const Style *s)
     }
 }
 
-static int storm_block(Deck *d, int at, const Net *n, const Style *s, const char *p1, const char *p2,
+int storm_block(Deck *d, int at, const Net *n, const Style *s, const char *p1, const char *p2,
                        const char *u1, const char *u2)
 {
     Line *l = insert(d, at, T_KK);
@@ -821,12 +852,6 @@ static int damage18(Deck *d, const Net *n, const Style *s)
     for (i = 0; i < zz; i++)
         kk += d->l[i].tag == T_KK;
     if (kk >= 150 && pct(70)) {                    /* the 200th block, closed by the 201st KK */
-        int rn = 1, rk = 1, rx = 0;
-        char a[16], b[16], c[16];
-        rm_pick(n->m, RM_INSIDE, &rn, &rk, &rx);
-        number_write(a, rn, 0, 6, 0);
-        number_write(b, rk, 2, 6, 0);
-        number_write(c, rx, 2, 6, 0);
         if (kk >= LIMIT_BLOCKS) {                  /* make room for it */
             for (i = zz - 1; i > 0 && d->l[i].tag != T_KK; i--)
                 ;
@@ -834,8 +859,7 @@ static int damage18(Deck *d, const Net *n, const Style *s)
             zz = i;
             kk--;
         }
-        for (; kk < LIMIT_BLOCKS - 1; kk++)
-            zz += block_in(d, zz, T_RM, s, a, b, c);
+        zz += reaches_in(d, zz, n, s, LIMIT_BLOCKS - 1 - kk);
         zz += dry_block(d, zz, n, s, 0);
         plain_record(insert(d, zz, T_KK), s, n);
         return 1;
@@ -936,7 +960,7 @@ static int damage12(Deck *d, const Net *n, const Style *s)
 /* A block that passes the flow limit under a ratio and all above it, and stays
    under it below that: a hundred inches on the least unit ordinate that does.
    The lines it took; under 0.01 no block can pass. */
-static int gate(Deck *d, int at, const Net *n, const Style *s, int ratio)
+int gate(Deck *d, int at, const Net *n, const Style *s, int ratio)
 {
     char unit[16];
     number_write(unit, LIMIT_QI / ratio + 1, 2, 8, 0);
@@ -957,8 +981,7 @@ static int open_to(const Net *n, int floor)        /* the least ratio above a nu
 /* 13 under some ratios alone, or under the ratios at different lines. */
 static int damage13_ratios(Deck *d, const Net *n, const Style *s)
 {
-    int low = open_to(n, 1), at = boundary(d, 1), later, zz, kk = 0, i, rn = 1, rk = 1, rx = 0;
-    char a[16], b[16], c[16];
+    int low = open_to(n, 1), at = boundary(d, 1), later, zz, kk = 0, i;
     if (low == 0 || first_tag(d, T_JR) < 0)
         return 0;
     int high = open_to(n, low);
@@ -971,12 +994,7 @@ static int damage13_ratios(Deck *d, const Net *n, const Style *s)
     switch (kk >= 150 ? 0 : between(1, 5)) {
     case 0:                                        /* closed by a 201st KK: 14 under the others */
         if (kk > LIMIT_BLOCKS - 1) return 0;
-        rm_pick(n->m, RM_INSIDE, &rn, &rk, &rx);
-        number_write(a, rn, 0, 6, 0);
-        number_write(b, rk, 2, 6, 0);
-        number_write(c, rx, 2, 6, 0);
-        for (; kk < LIMIT_BLOCKS - 1; kk++)
-            zz += block_in(d, zz, T_RM, s, a, b, c);
+        zz += reaches_in(d, zz, n, s, LIMIT_BLOCKS - 1 - kk);
         zz += gate(d, zz, n, s, high);
         plain_record(insert(d, zz, T_KK), s, n);
         return 1;
@@ -1065,20 +1083,12 @@ static int damage13(Deck *d, const Net *n, const Style *s)
 
 static int damage14(Deck *d, const Net *n, const Style *s)
 {
-    int kk = 0, i, at = last_line_of_deck(d), rn = 1, rk = 1, rx = 0;
-    char a[16], b[16], c[16];
+    int kk = 0, i, at = last_line_of_deck(d);
     for (i = 0; i < d->nl; i++)
         kk += d->l[i].tag == T_KK;
     if (kk < 150)
         return 0;
-    rm_pick(n->m, RM_INSIDE, &rn, &rk, &rx);
-    number_write(a, rn, 0, 6, 0);
-    number_write(b, rk, 2, 6, 0);
-    number_write(c, rx, 2, 6, 0);
-    while (kk <= LIMIT_BLOCKS) {
-        at += block_in(d, at, T_RM, s, a, b, c);
-        kk++;
-    }
+    at += reaches_in(d, at, n, s, LIMIT_BLOCKS + 1 - kk);
     if (pct(20)) line_text(&d->l[at - 1], "RM 99");
     if (pct(15) && at >= 4 && d->l[at - 4].tag == T_KK)   /* the block before is at fault as well */
         line_text(&d->l[at - 3], pct(50) ? "HC 5" : "KM");
@@ -1172,6 +1182,8 @@ int damage(Deck *d, const Net *n, const Style *s, int number)
         case 15: done = damage15(d, n, s); break;
         case 16: done = damage16(d); break;
         case 18: done = damage18(d, n, s); break;
+        case 19: done = damage19(d, n, s); break;
+        case 20: done = damage20(d, n, s); break;
         default: return 0;
         }
     }
@@ -1214,7 +1226,7 @@ int damage_more(Deck *d, const Style *s)
             line_text(l, l->form == FREE ? "KK ,A" : "KK A B");
             return 1;
         }
-        if (l->tag < T_IT || l->tag > T_RM || l->tag == T_KM) return 0;
+        if (l->tag < T_IT || l->tag > T_SQ || l->tag == T_KM) return 0;
         if (l->form == FREE && pct(30))
             return set_field(l, s, 10, "1");
         k = pct(50) ? rnd(10) : rnd(named_fields(l->tag));
@@ -1279,7 +1291,7 @@ int deck_mutate_lines(Deck *d)
 
 int bytes_mutate(unsigned char *b, int n)
 {
-    static const char likely[] = "0123456789.,,, +-KZIQPUBHRMLJC*FX\n\n\r";
+    static const char likely[] = "0123456789.,,, +-KZIQPUBHRMLJCSV*FX\n\n\r";
     int at;
     if (n == 0)
         return 0;

@@ -1,7 +1,7 @@
 /* Random networks: blocks, their values and the order in which they stand.
-   Every value keeps the limits of document 01 and of document 02, CR 1 and
-   CR 3, unless flows are to be wild; losses are aimed at the rule of document
-   02, CR 2, under one of the ratios. */
+   Every value keeps the limits of document 01 and of document 02, CR 1, CR 3
+   and CR 6, unless flows are to be wild; losses are aimed at the rule of
+   document 02, CR 2, under one of the ratios. */
 #include <string.h>
 #include "decks.h"
 
@@ -430,7 +430,7 @@ static void inflow(Net *n, Block *b, int maxlist, int64_t budget, int wild)
     }
 }
 
-static void routing(Net *n, Block *b)
+void net_routing(Net *n, Block *b)
 {
     int how = RM_INSIDE, r = rnd(100);
     b->kind = 4;
@@ -518,9 +518,10 @@ static int leaf_count(const Net *n)
     return c;
 }
 
+/* In more than half of the networks some or all routings are ponds. */
 static void fill(Net *n, int maxlist, int flow)
 {
-    int i, leaves = leaf_count(n);
+    int i, leaves = leaf_count(n), ponds = pct(60) ? between(30, 100) : 0;
     for (i = 0; i < n->nb; i++) {
         Block *b = &n->b[i];
         int64_t share = LIMIT_FLOW / (leaves > 0 ? leaves : 1);
@@ -535,9 +536,11 @@ static void fill(Net *n, int maxlist, int flow)
             else
                 inflow(n, b, maxlist, share, wild);
         } else if (b->kind == 4) {
-            routing(n, b);
+            net_routing(n, b);
+            if (pct(ponds)) b->kind = 5;
         }
     }
+    net_ponds(n, flow != FLOW_WILD ? PONDS_LIMITED : pct(50) ? PONDS_FITTED : PONDS_ANY);
 }
 
 void net_random(Net *n, int blocks, int hold, int maxlist, int flow, int routed)
@@ -601,7 +604,7 @@ void net_limit(Net *n, int leaves, int excess)
     for (i = 0; i < n->nb; i++) {
         Block *b = &n->b[i];
         if (b->kind == 4) {
-            routing(n, b);
+            net_routing(n, b);
             continue;
         }
         if (b->nch != 0)

@@ -270,6 +270,7 @@ int sheet_net(Net *n)
     else
         block = pct(2) ? many_blocks(n) : few_blocks(n, 6);
     aim(n, &n->b[block], at);
+    net_ponds(n, PONDS_FITTED);                    /* ponds below it have other water now */
     return deck_place(n, block);
 }
 
@@ -289,6 +290,7 @@ int sheet_big_net(Net *n)
         b->pi[i] = between(5000, 10000);
     unit_values(b, LIMIT_UNITS, MODERATE_UNIT);
     no_losses(b);
+    net_ponds(n, PONDS_FITTED);
     return deck_place(n, block);
 }
 

@@ -5,7 +5,7 @@
 #include "decks.h"
 
 static const char *const idents[] = {
-    "ID", "IT", "JR", "KK", "KM", "BA", "PB", "PI", "LU", "UI", "QI", "HC", "RM", "ZZ"
+    "ID", "IT", "JR", "KK", "KM", "BA", "PB", "PI", "LU", "UI", "QI", "HC", "RM", "RS", "SV", "SQ", "ZZ"
 };
 
 const char *tag_ident(int tag)
@@ -363,23 +363,24 @@ static void list_line(Writer *w, int tag, const int *v, int n, int *pos, int pla
 
 static void block_write(Writer *w, const Block *b)
 {
-    static const int four[] = { 4 }, two[] = { 2 }, none[] = { 0 }, lup[] = { 4, 4, 2 }, rmp[] = { 0, 2, 2 };
-    int open[8] = { 0 }, pos[3] = { 0, 0, 0 }, last = -1, k, i;
+    static const int four[] = { 4 }, two[] = { 2 }, none[] = { 0, 0, 0 }, lup[] = { 4, 4, 2 }, rmp[] = { 0, 2, 2 };
+    int open[11] = { 0 }, pos[5] = { 0, 0, 0, 0, 0 }, last = -1, k, i;
     int comma = memchr(b->name, ',', (size_t)b->nlen) != NULL;
     if (comma && w->form == FREE)
         control(w, FIXED);
     line_name(add(w, T_KK), b->name, b->nlen, w->s->ptext);
-    /* 0 BA, 1 PB, 2 PI, 3 LU, 4 UI, 5 QI, 6 HC, 7 RM */
+    /* 0 BA, 1 PB, 2 PI, 3 LU, 4 UI, 5 QI, 6 HC, 7 RM, 8 RS, 9 SV, 10 SQ */
     open[0] = b->has_ba;
     open[1] = b->has_pb;
     open[2] = open[3] = open[4] = b->kind == 1;
     open[5] = b->kind == 2;
     open[6] = b->kind == 3;
     open[7] = b->kind == 4;
+    open[8] = open[9] = open[10] = b->kind == 5;
     int plain = pct(50);
     for (;;) {
-        int left[8], n = 0;
-        for (i = 0; i < 8; i++)
+        int left[11], n = 0;
+        for (i = 0; i < 11; i++)
             if (open[i])
                 left[n++] = i;
         if (n == 0)
@@ -430,13 +431,28 @@ static void block_write(Writer *w, const Block *b)
             open[6] = 0;
             break;
         }
-        default: {
+        case 7: {
             int v[] = { b->rn, b->rk, b->rx };
             if (v[2] == 0 && pct(20)) v[2] = -1;
             record(w, T_RM, 3, v, rmp, NULL);
             open[7] = 0;
             break;
         }
+        case 8: {
+            int v[] = { 1, -2, pct(50) ? -1 : 0 };
+            char given[3][16] = { "", "STOR", "" };
+            record(w, T_RS, 3, v, none, given);
+            open[8] = 0;
+            break;
+        }
+        case 9:
+            list_line(w, T_SV, b->sv, b->nsv, &pos[3], 2);
+            open[9] = pos[3] < b->nsv || pct(1);
+            break;
+        default:
+            list_line(w, T_SQ, b->sq, b->nsq, &pos[4], 2);
+            open[10] = pos[4] < b->nsq || pct(1);
+            break;
         }
     }
 }
