@@ -1,5 +1,5 @@
 #!/bin/sh
-# Builds the deck writer, the pair checker and the counters of losses, ratios, moves and sheets into target/second.
+# Builds the deck writer, the pair checker and the counters of losses, ratios, moves, sheets and ponds into target/second.
 set -eu
 root=$(CDPATH= cd -- "$(dirname -- "$0")/.." && pwd)
 out=$root/target/second
@@ -16,6 +16,7 @@ for counter in losses ratios; do
     $cc $flags -o "$out/$counter" "$root/second/$counter.c" "$root/second/cards.c" \
         "$root/second/pond.c" "$root/second/bundle.c"
 done
+$cc $flags -o "$out/ponds" "$root/second/ponds.c" "$root/second/cards.c" "$root/second/bundle.c"
 $cc $flags -o "$out/moves" "$root/second/moves.c" "$root/second/mover.c" "$root/second/bundle.c"
 $cc $flags -o "$out/sheets" "$root/second/sheets.c" "$root/second/cards.c" "$root/second/pond.c" \
     "$root/second/bundle.c"

@@ -14,6 +14,7 @@ typedef struct {
     size_t lines, slots;
     size_t blocks;                                 /* of an accepted deck */
     int ratios;                                    /* whether it has lines of ratios */
+    int ponds;                                     /* whether it has a block of kind 5 */
 } Listing;
 
 static void fail(const char *why)
@@ -93,6 +94,16 @@ static int well_formed(Listing *l)
     return k + 1 == l->lines;
 }
 
+static int has_pond(const Listing *l)
+{
+    size_t k;
+    int kind;
+    for (k = 0; k + 1 < l->lines; k++)
+        if (!names_ratio(l->line[k]) && sscanf(l->line[k], "%*s %d", &kind) == 1 && kind == 5)
+            return 1;
+    return 0;
+}
+
 /* 0 accepted, else the number of the refusal */
 static int refusal(Listing *l)
 {
@@ -107,6 +118,7 @@ static int refusal(Listing *l)
     l->blocks = blocks;
     if (!well_formed(l))
         fail("a listing that does not have each block once under each ratio");
+    l->ponds = has_pond(l);
     return 0;
 }
 
@@ -139,7 +151,7 @@ static int same(Listing *a, Listing *b)
 int main(void)
 {
     static Listing a, b;
-    unsigned long pairs = 0, both = 0, ratios = 0, deep = 0, neither = 0, moved = 0, bad = 0;
+    unsigned long pairs = 0, both = 0, ratios = 0, ponds = 0, deep = 0, neither = 0, moved = 0, bad = 0;
     while (read_listing(&a)) {
         if (!read_listing(&b))
             fail("an odd number of listings");
@@ -154,6 +166,7 @@ int main(void)
             if (same(&a, &b)) {
                 both++;
                 ratios += a.ratios != 0;
+                ponds += a.ponds != 0;
             } else {
                 bad++;
                 printf("pair %lu: both accepted, listings differ\n", pairs);
@@ -169,7 +182,7 @@ int main(void)
             neither++;
         }
     }
-    printf("pairs %lu: both accepted %lu (in another order of lines %lu, under ratios %lu), one refused with 11 %lu, "
-           "neither accepted %lu, violations %lu\n", pairs, both, moved, ratios, deep, neither, bad);
+    printf("pairs %lu: both accepted %lu (in another order of lines %lu, under ratios %lu, with ponds %lu), "
+           "one refused with 11 %lu, neither accepted %lu, violations %lu\n", pairs, both, moved, ratios, ponds, deep, neither, bad);
     return bad != 0 || pairs == 0;
 }

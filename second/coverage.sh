@@ -9,7 +9,9 @@
 # in which an initial loss is filled or do not tell a wrong rule of loss from
 # the right one, when they lack a sort of JR or do not tell a wrong rule of
 # ratios from the right one, when none of its refused decks depends on the first
-# or on the last ratio being looked at, when the moves lack a sort of file or
+# or on the last ratio being looked at, when they lack an edge of ponds or a
+# fault of theirs or do not tell a wrong rule of ponds from the right one, when
+# no pair has ponds, when the moves lack a sort of file or
 # room, or faults beside one another, or do not tell a wrong rule of the mover
 # from the right one, when the cases of the sheet lack an edge or do not tell a
 # wrong rule from the right one, when a sheet is not the one that its counter
@@ -82,6 +84,7 @@ count() {
 check count bundle "$(deck_refusals)" < "$work/out"
 check "$root/target/second/losses" < "$work/decks"
 check "$root/target/second/ratios" < "$work/decks"
+check "$root/target/second/ponds" < "$work/decks"
 
 "$decks" cases "$seed" "$cases" > "$work/decks"
 "$hec1" --cases < "$work/decks" > "$work/out" || failed=$((failed + 1))
@@ -106,10 +109,12 @@ check count sound "" < "$work/out"
 "$decks" pairs "$seed" "$pairs" > "$work/decks"
 "$hec1" --bundle < "$work/decks" > "$work/out" || failed=$((failed + 1))
 check count pairs "11" < "$work/out"
-check "$root/target/second/check-pairs" < "$work/out"
+check "$root/target/second/check-pairs" < "$work/out" > "$work/said"
+cat "$work/said"
+check grep -q 'with ponds [1-9]' "$work/said"
 
 # the long decks that are written for timing
-for kind in lists blocks storms ratios routing; do
+for kind in lists blocks storms ratios routing ponds; do
     "$decks" big "$seed" "$kind" | "$hec1" > "$work/out" || failed=$((failed + 1))
     echo "long     $kind: $(tail -n 1 "$work/out")"
     check grep -q '^END ' "$work/out"

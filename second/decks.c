@@ -95,7 +95,7 @@ static void sound_once(int small)
         net_random(&net, size, 0, 4, FLOW_SHARE, between(5, 60));
     } else if (r < 885) {                          /* twenty held */
         it_values(12);
-        net_random(&net, between(25, 45), LIMIT_HELD, 4, FLOW_SHARE, 5);
+        net_random(&net, between(25, 45), LIMIT_HELD, 4, FLOW_SHARE, 12);
     } else if (r < 945) {                          /* at and below the flow limit */
         it_values(10);
         size = between(1, 10);
@@ -701,6 +701,49 @@ static void big_routing(int count, int nq, int steps)
     say("ZZ\n");
 }
 
+/* SV and SQ of a pond, ten values a line.  An acre-foot more makes 20 to 22 cfs
+   more, and 22 is the most that the rule of 66 minutes allows: so no outflow
+   passes the greatest inflow so far, and 3,040 cfs are in every table. */
+static void say_table(int rows)
+{
+    int storage[LIMIT_ROWS] = { 0 }, outflow[LIMIT_ROWS] = { 0 }, i, list;
+    for (i = 1; i < rows; i++) {
+        int more = between(152 / (rows - 1), 190 / (rows - 1));
+        storage[i] = storage[i - 1] + more;
+        outflow[i] = outflow[i - 1] + more * between(20, 22);
+    }
+    for (list = 0; list < 2; list++)
+        for (i = 0; i < rows; i++) {
+            if (i % 10 == 0) say(list == 0 ? "SV" : "SQ");
+            else say(",");
+            say_number(100 * (list == 0 ? storage[i] : outflow[i]), 2);
+            if (i % 10 == 9 || i + 1 == rows) say("\n");
+        }
+}
+
+/* One inflow that rises and falls within 3,000 cfs, every sixty intervals, and
+   ponds in a chain.  Each delays the wave by half an interval and a little. */
+static void big_ponds(int count, int nq, int rows)
+{
+    int v, i;
+    char t[64];
+    snprintf(t, sizeof t, "ID PONDS\n*FREE\nIT 66,,,%d\n", nq);
+    say(t);
+    say_block();
+    for (v = 0; v < nq; v++) {
+        int turn = v % 60 < 30 ? v % 60 : 60 - v % 60;
+        say(v % 10 == 0 ? "QI" : ",");
+        say_number(100 * (90 * turn + between(1, 300)), 2);
+        if (v % 10 == 9 || v + 1 == nq) say("\n");
+    }
+    for (i = 1; i < count; i++) {
+        say_block();
+        say("RS1,STOR\n");
+        say_table(rows);
+    }
+    say("ZZ\n");
+}
+
 /* ---- command line ---- */
 
 static int whole(const char *t, int least, int top, const char *what)
@@ -759,6 +802,15 @@ int main(int argc, char **argv)
                 big_fitting(seed, count, nq, units, rain, ratios == 0, ratios);
         } else if (!strcmp(kind, "routing"))
             big_routing(given > 0 ? a[0] : LIMIT_BLOCKS, given > 1 ? a[1] : LIMIT_NQ, given > 2 ? a[2] : 50);
+        else if (!strcmp(kind, "ponds")) {
+            int count = given > 0 ? a[0] : LIMIT_BLOCKS, nq = given > 1 ? a[1] : LIMIT_NQ;
+            int rows = given > 2 ? whole(argv[6], 2, LIMIT_ROWS, "ROWS") : LIMIT_ROWS;
+            do {
+                used = name_number = 0;
+                rng_seed(seed, (uint64_t)3 << 40);
+                big_ponds(count, nq, rows);
+            } while (used > LIMIT_BYTES && --count > 0);
+        }
         else
             return usage();
         fwrite(big, 1, (size_t)used, stdout);

@@ -316,6 +316,21 @@ static int misplaced_ratios(Deck *d, const Style *s)
 
 /* ---- 5: records out of place ---- */
 
+/* A second RS, sound or not. */
+static int second_pond(Deck *d, const Style *s, const Net *n)
+{
+    static const char *const bad[] = { "RS", "RS 2,STOR", "RS 1,FLOW", "RS 1.2.3", "RS 1,STOR,1", "RS 1,STOR,0,0", "RS -1", "RS X,Y,Z" };
+    int at = find_tag(d, T_RS);
+    if (at < 0)
+        return 0;
+    Line *l = insert(d, between(at + 1, closing_line(d, at)), T_RS);
+    if (pct(50))
+        plain_record(l, s, n);
+    else
+        line_text(l, bad[rnd(COUNT(bad))]);
+    return 1;
+}
+
 static int damage5(Deck *d, const Net *n, const Style *s)
 {
     static const int data[] = { T_BA, T_PB, T_PI, T_LU, T_UI, T_QI, T_HC, T_RM, T_RS, T_SV, T_SQ };
@@ -326,6 +341,8 @@ static int damage5(Deck *d, const Net *n, const Style *s)
     Line *l;
     if (pct(25))
         return misplaced_ratios(d, s);
+    if (pct(15))
+        return second_pond(d, s, n);
     switch (rnd(10)) {
     case 0:                                        /* ID after IT */
         l = insert(d, between(it + 1, zz), T_ID);
@@ -498,6 +515,8 @@ static int damage6(Deck *d, const Style *s)
     Line *l;
     if (pct(22))
         return bad_ratios(d, s);
+    if (pct(15))
+        return damage6_pond(d, s);
     switch (rnd(8)) {
     case 0:
     case 1:                                        /* a misshapen number */
@@ -598,8 +617,8 @@ static int damage7(Deck *d, const Style *s)
     int at = find_tag(d, outside[w].tag);
     if (pct(20))
         return ratios_outside(d, s);
-    if (pct(20))
-        return damage7_word(d, s);
+    if (pct(35))
+        return damage7_pond(d, s);
     if (at < 0)
         return 0;
     Line *l = &d->l[at];
@@ -656,6 +675,8 @@ static int damage9(Deck *d, const Net *n, const Style *s)
     int kk = find_tag(d, T_KK), end, i, has[T_ZZ + 1] = { 0 }, tag;
     if (kk < 0)
         return 0;
+    if (pct(20))
+        return damage9_pond(d, n, s);
     end = closing_line(d, kk + 1);
     for (i = kk + 1; i < end; i++)
         if (d->l[i].tag <= T_ZZ)
@@ -685,8 +706,6 @@ static int damage9(Deck *d, const Net *n, const Style *s)
         plain_record(insert(d, i++, T_KK), s, n);
         tag = rnd(1 << COUNT(data));
         if (pct(70)) tag &= ~POND_SET;
-        else if (pct(70)) tag &= POND_SET;         /* a part of a pond's records */
-        else tag = POND_SET | 1 << rnd(COUNT(data));   /* all of them, and perhaps another one */
         for (kk = 0; kk < COUNT(data); kk++)
             if (tag >> kk & 1)
                 plain_record(insert(d, i++, data[kk]), s, n);

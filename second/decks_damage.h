@@ -30,7 +30,9 @@ int gate(Deck *d, int at, const Net *n, const Style *s, int ratio);
 
 /* ---- ponds ---- */
 int broken_pond_first(Deck *d, int at, const Net *n, const Style *s);
-int damage7_word(Deck *d, const Style *s);
+int damage6_pond(Deck *d, const Style *s);
+int damage7_pond(Deck *d, const Style *s);
+int damage9_pond(Deck *d, const Net *n, const Style *s);
 int damage19(Deck *d, const Net *n, const Style *s);
 int damage20(Deck *d, const Net *n, const Style *s);
 

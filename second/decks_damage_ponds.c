@@ -1,4 +1,5 @@
-/* Damages aimed at 19 and 20 (document 02, CR 6), and at the word on RS. */
+/* Damages of ponds (document 02, CR 6): of the fields of RS, of the set of
+   records, and those aimed at 19 and 20. */
 #include <string.h>
 #include "decks_damage.h"
 
@@ -122,21 +123,66 @@ static int blocks_of(const Deck *d)
     return kk;
 }
 
-/* ---- 7: the word on RS ---- */
+/* ---- 6 and 7: the fields of RS ---- */
 
-int damage7_word(Deck *d, const Style *s)
+int damage6_pond(Deck *d, const Style *s)
 {
-    static const char *const words[] = {
-        "", "stor", "Stor", "STOr", "STO", "STORE", "STOR1", "STORAGE", "FLOW", "ELEV", "1", "0", "STOR.", "-STOR", "ROTS", "'STOR'", "RESERVOIR",
-        "STORSTOR"
-    };
-    static const char *const split[] = { "ST OR", "S TOR", "STOR 0", "STOR,0", "STOR  R" };
+    static const char *const bad[] = { "1.0", "0.0", "X", "1-", "STOR", ".", "1.2", "0000000001", "--1", "1E0" };
     int at = find_tag(d, T_RS);
     if (at < 0)
         return 0;
-    if (d->l[at].form == FIXED && pct(30))
-        return set_field(&d->l[at], s, 1, split[rnd(COUNT(split))]);
-    return set_field(&d->l[at], s, 1, words[rnd(COUNT(words))]);
+    if (pct(25) && !damage7_pond(d, s))            /* and what would be 7 */
+        return 0;
+    Line *l = &d->l[at];
+    switch (rnd(3)) {
+    case 0: return set_field(l, s, 0, bad[rnd(COUNT(bad))]);
+    case 1: return set_field(l, s, 2, bad[rnd(COUNT(bad))]);
+    default: return set_field(l, s, between(3, pct(70) ? 3 : 9), pct(50) ? "0" : pct(50) ? "1" : "X");
+    }
+}
+
+int damage7_pond(Deck *d, const Style *s)
+{
+    static const char *const steps[] = { "0", "2", "", "", "-1", "+10", "50", "-0", "999999" };
+    static const char *const start[] = { "1", "-1", "+2.", "100", "-100" };
+    static const char *const words[] = { "STO", "STORE", "STOR1", "STORAGE", "FLOW", "ELEV", "1", "0", "STOR.", "-STOR", "ROTS", "'STOR'", "STORSTOR" };
+    static const char *const small[] = { "stor", "Stor", "STOr", "sTOR" };
+    static const char *const split[] = { "ST OR", "S TOR", "STOR 0", "STOR  R" };
+    static const char *const large[] = { "RESERVOIR", "STORAGEVOLUME", "STORSTORS" };
+    static const char *const storage[] = { "100000", "-.01", "-1", "999999" }, *const outflow[] = { "100001", "-.01", "-5", "999999" };
+    int at = find_tag(d, T_RS), list = find_tag(d, T_SV), other = find_tag(d, T_SQ), k;
+    if (at < 0 || list < 0 || other < 0)
+        return 0;
+    Line *l = &d->l[at];
+    switch (rnd(10)) {
+    case 0: return set_field(l, s, 0, steps[rnd(COUNT(steps))]);
+    case 1: return set_field(l, s, 2, start[rnd(COUNT(start))]);
+    case 2: return set_field(l, s, 1, "");
+    case 3: return set_field(l, s, 1, small[rnd(COUNT(small))]);
+    case 4: return l->form == FIXED && set_field(l, s, 1, split[rnd(COUNT(split))]);
+    case 5: return l->form == FREE && set_field(l, s, 1, large[rnd(COUNT(large))]);
+    case 6: k = rnd(d->l[list].nf); return set_field(&d->l[list], s, k, storage[rnd(COUNT(storage))]);
+    case 7: k = rnd(d->l[other].nf); return set_field(&d->l[other], s, k, outflow[rnd(COUNT(outflow))]);
+    default: return set_field(l, s, 1, words[rnd(COUNT(words))]);
+    }
+}
+
+/* ---- 9 ---- */
+
+/* A block with some of a pond's records, or all of them and another one. */
+int damage9_pond(Deck *d, const Net *n, const Style *s)
+{
+    static const int records[] = { T_RS, T_SV, T_SQ }, others[] = { T_BA, T_PB, T_PI, T_LU, T_UI, T_QI, T_HC, T_RM };
+    int at = boundary(d, 1), part = pct(50) ? 7 : between(1, 6), k;
+    if (at < 0)
+        return 0;
+    plain_record(insert(d, at++, T_KK), s, n);
+    if (part == 7)
+        plain_record(insert(d, at++, others[rnd(COUNT(others))]), s, n);
+    for (k = 0; k < 3; k++)
+        if (part >> k & 1)
+            plain_record(insert(d, at++ - (part == 7 ? rnd(2) : 0), records[k]), s, n);
+    return 1;
 }
 
 /* ---- 19 ---- */
@@ -372,10 +418,11 @@ static int damage20_ratios(Deck *d, const Net *n, const Style *s)
     switch (rnd(6)) {
     case 0:                                        /* closed by ZZ: 15 under the others */
         return pond_gate(d, zz, n, s, ratio) > 0;
-    case 1:                                        /* 13 under the greatest at an earlier line, or at a later one */
-        lines = pond_gate(d, at, n, s, ratio);
+    case 1:                                        /* 13 under the greatest at an earlier line, or under this one at a later */
+        lines = ratio > 1 ? pond_gate(d, at, n, s, ratio) : 0;
         if (lines == 0) return 0;
-        gate(d, pct(50) ? at : at + lines, n, s, pct(50) ? top_ratio(n) : ratio + 1);
+        if (pct(40)) gate(d, at, n, s, top_ratio(n));
+        else gate(d, at + lines, n, s, ratio);
         return 1;
     case 2:                                        /* refused by another fault behind it, which the others come to */
         lines = pond_gate(d, at, n, s, ratio);

@@ -1,12 +1,13 @@
 /* Fuzz driver of the self-test: runs thousands of mutated decks under the
  * sanitizers, from a fixed seed.  No outcome is known beforehand; what is
  * tested is what must hold for any deck (document 01, 'What comes back', and
- * document 02, CR 3 to CR 5):
+ * document 02, CR 3 to CR 6):
  * outcomes do not depend on what the lent room held or on room to spare,
  * refusals leave zeros, too little room is refused only where nothing else
  * is, records agree with ordinates and say their ratio, they move to the old
  * form and back just where no other ratio than 1.00 is among them, the sheet of
- * a runoff block adds up to its ordinates, and some changes to a deck change
+ * a runoff block adds up to its ordinates, a pond starts without outflow and
+ * never lets out more than has come in, and some changes to a deck change
  * nothing or only the line.  Prints two lines and ends with status 0, or says
  * what broke, shows the deck and ends with status 1. */
 #include "engine.h"
@@ -23,7 +24,8 @@ enum {
     DECK_ROOM = 70000,
     MOST_NAMED = 5,     /* blocks of a deck that are asked for by name */
     RECORD_ROOM = BLOCK_LIMIT * RATIO_LIMIT * RECORD_BYTES,
-    LAST_REFUSAL = 18
+    POND_KIND = 5,
+    LAST_REFUSAL = 20
 };
 
 static const char *const seeds[] = {
@@ -58,7 +60,16 @@ static const char *const seeds[] = {
 
     "IT    60                       3\nKM\nJR  PREC    0.01    2.50    2.50    2.51\n"
     "KK A\nBA     1\nPI    20\nLU\nUI  2000\nKK B\nBA     1\nPI    10    0.07\n"
-    "LU\nUI     1\nKK C\nHC     2\nZZ\n"
+    "LU\nUI     1\nKK C\nHC     2\nZZ\n",
+
+    "*FREE\nIT 60,,,9\nJR PREC,1,2\nKK A\nBA 2\nPI .5,.3,.1\nLU ,.1\nUI 40,90,20\n"
+    "KK P\nRS 1,STOR\nSV 0,1,2,5\nSQ ,10,20,30.5\nKK B\nQI 5,9,9,2\nKK C\nHC 2\n"
+    "KK L\nSQ 0,0\nRS 1,STOR,0\nSV 0,10\nSQ 7\nSV 20\nZZ\n",
+
+    "IT  1440                       4\nKK A\nQI   100   99999   90000\n"
+    "KK B\nSV             10000999999.99\nRS     1    STOR       0\n"
+    "SQ     0    8000  100000\nKK C\nRS     1    STOR\n"
+    "SV     0   5000099999.99\nSQ           50000  100000\nZZ\n"
 };
 
 static const char *const scraps[] = {
@@ -71,7 +82,9 @@ static const char *const scraps[] = {
     "PB 100.0001\n", "KK X\nBA 1\nPB 1\nPI 0\nLU\nUI 1\n", "PREC", "JR",
     "JR PREC,1.00\n", "JR PREC 1.5 .01 9.99\n", "JR PREC\n", "JR prec,1\n",
     "JR PREC,,2\n", "JR PREC,10\n", "IT 60,,,4\nJR PREC,2,1,.33\n",
-    "KK X\nBA 1\nPI 20,20\nLU\nUI 500\n"
+    "KK X\nBA 1\nPI 20,20\nLU\nUI 500\n", "RS 1,STOR,0\n", "RS 1,STOR\n", "SV 0,1\n",
+    "SQ 0,1\n", "SV 9\n", "SQ 9\n", "SV\n", "STOR", "KK X\nRS 1,STOR\nSV 0,9\nSQ 0,1\n",
+    "KK X\nQI 9\nKK Y\nRS 1,STOR\nSV ,.01\nSQ 0,0\n"
 };
 
 enum { SEEDS = sizeof seeds / sizeof *seeds,
@@ -355,7 +368,7 @@ static void check_record(const struct outcome *o, unsigned block,
         broken("a record does not fit its ordinates");
     if (peak > 6000000000000)
         broken("a flow is over the limit");
-    if (record[RECORD_KIND] < 1 || record[RECORD_KIND] > 4
+    if (record[RECORD_KIND] < 1 || record[RECORD_KIND] > 5
         || record[RECORD_KIND + 1] != 0
         || number(record + RECORD_INTERVAL + 2, 2) != 0
         || number(record + RECORD_PLACE + 2, 4) != 0)
@@ -409,11 +422,32 @@ static void check_sheet(const struct outcome *o, unsigned block,
     sheets++;
 }
 
-static bool is_runoff(const struct outcome *o, unsigned block, unsigned ratio)
+static unsigned kind_at(const struct outcome *o, unsigned block,
+                        unsigned ratio)
 {
     size_t record = (size_t)(ratio - 1) * o->answer.blocks + block - 1;
 
-    return o->room.records[record * RECORD_BYTES + RECORD_KIND] == SHEET_KIND;
+    return o->room.records[record * RECORD_BYTES + RECORD_KIND];
+}
+
+static unsigned long ponds;
+
+/* A pond takes the hydrograph of the block before it.  What is in it counts at
+ * both ends of the intervals so far, and so does what has left. */
+static void check_pond(const struct outcome *o, const uint64_t *inflow)
+{
+    const uint64_t *flow = o->room.ordinates;
+    uint64_t in = 0, out = 0;
+
+    if (flow[0] != 0)
+        broken("a pond starts with outflow");
+    for (unsigned i = 1; i < o->answer.nq; i++) {
+        in += inflow[i - 1] + inflow[i];
+        out += flow[i - 1] + flow[i];
+        if (out > in)
+            broken("a pond lets out more than has come in");
+    }
+    ponds++;
 }
 
 /* Blocks by name, under each ratio. */
@@ -422,6 +456,7 @@ static void check_named(const struct outcome *base, unsigned ratio)
     unsigned nq = base->answer.nq;
     unsigned blocks = base->answer.blocks;
     size_t bytes = record_bytes(&base->answer);
+    uint64_t before[ORDINATE_LIMIT];    /* of the block before */
 
     for (unsigned k = 0; k <= blocks && k <= MOST_NAMED; k++) {
         struct named named = { k, ratio };
@@ -435,8 +470,11 @@ static void check_named(const struct outcome *base, unsigned ratio)
         check_record(&o, block, place);
         if (memcmp(o.room.records, base->room.records, bytes) != 0)
             broken("the named block changes records");
-        if (is_runoff(&o, block, place))
+        if (kind_at(&o, block, place) == SHEET_KIND)
             check_sheet(&o, block, place);
+        if (kind_at(&o, block, place) == POND_KIND && k > 1)
+            check_pond(&o, before);
+        memcpy(before, o.room.ordinates, nq * sizeof *before);
         drop(&o);
     }
 }
@@ -553,6 +591,7 @@ int main(void)
     for (unsigned k = 1; k <= LAST_REFUSAL; k++)
         if (count[k] > 0)
             printf(" %u:%u", k, count[k]);
-    printf("\nfuzz: %lu sheets, all of which add up\n", sheets);
+    printf("\nfuzz: %lu sheets, all of which add up, and %lu ponds\n", sheets,
+           ponds);
     return 0;
 }

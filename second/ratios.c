@@ -344,11 +344,15 @@ static struct {
 
 static unsigned long refused_13, wrong_answers;
 
+/* On one line what depends on flows comes before 14 and 15, which are all that
+ * another ratio can meet there in its place. */
 static bool comes_before(struct met a, struct met b)
 {
     if (a.refusal == ACCEPTED || b.refusal == ACCEPTED)
         return a.refusal != ACCEPTED;
-    return a.line < b.line || (a.line == b.line && a.refusal < b.refusal);
+    return a.line < b.line
+        || (a.line == b.line && is_of_flows(a.refusal)
+            && !is_of_flows(b.refusal));
 }
 
 static void count_13(const struct met *met, const struct ratios *ratios,

@@ -525,10 +525,10 @@ static void count_if(bool holds, struct tally *tally)
     tally->cases += holds;
 }
 
-enum { LAST_REFUSAL = NO_PATTERN };
+enum { LAST_REFUSAL = OVER_TABLE };
 
 static unsigned long all_cases, sheets_made;
-static unsigned long not_made[KIND_ROUTING + 1], refused[LAST_REFUSAL + 1];
+static unsigned long not_made[KIND_POND + 1], refused[LAST_REFUSAL + 1];
 static unsigned long places[RATIO_LIMIT];
 
 static void count_answer(const struct asked *asked)
@@ -901,7 +901,7 @@ static unsigned print_all(void)
     puts("   cases  of the sheet");
     missing += print_count(all_cases, "all");
     missing += print_count(sheets_made, "sheets");
-    for (unsigned k = KIND_INFLOW; k <= KIND_ROUTING; k++)
+    for (unsigned k = KIND_INFLOW; k <= KIND_POND; k++)
         missing += print_numbered(not_made[k], "no sheet, kind", k);
     for (unsigned k = LONG_DECK; k <= LAST_REFUSAL; k++)
         missing += print_numbered(refused[k], "refused by", k);
