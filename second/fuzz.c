@@ -63,11 +63,11 @@ static const char *const seeds[] = {
     "LU\nUI     1\nKK C\nHC     2\nZZ\n",
 
     "*FREE\nIT 60,,,9\nJR PREC,1,2\nKK A\nBA 2\nPI .5,.3,.1\nLU ,.1\nUI 40,90,20\n"
-    "KK P\nRS 1,STOR\nSV 0,1,2,5\nSQ ,10,20,30.5\nKK B\nQI 5,9,9,2\nKK C\nHC 2\n"
-    "KK L\nSQ 0,0\nRS 1,STOR,0\nSV 0,10\nSQ 7\nSV 20\nZZ\n",
+    "KK P\nRS 1,STOR\nSV 0,1,9,50\nSQ ,10,20,90.5\nKK B\nQI 5,9,9,2\nKK C\nHC 2\n"
+    "KK L\nSQ 0,0\nRS 1,STOR,0\nSV 0,10\nSQ 99\nSV 60\nZZ\n",
 
     "IT  1440                       4\nKK A\nQI   100   99999   90000\n"
-    "KK B\nSV             10000999999.99\nRS     1    STOR       0\n"
+    "KK B\nSV         1000099999.99\nRS     1    STOR       0\n"
     "SQ     0    8000  100000\nKK C\nRS     1    STOR\n"
     "SV     0   5000099999.99\nSQ           50000  100000\nZZ\n"
 };

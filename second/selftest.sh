@@ -1,7 +1,7 @@
 #!/usr/bin/env bash
 # Self-test of the second program.  Builds it and the fuzz driver with the
 # address and undefined-behaviour sanitizers, runs small decks against outcomes
-# worked out by hand from document 01 and document 02, CR 1 to CR 5, then the
+# worked out by hand from document 01 and document 02, CR 1 to CR 6, then the
 # fuzz.  The last line counts.
 #
 # Decks and expected texts are written with printf's escapes (\n, \r, \xHH).
@@ -14,6 +14,7 @@ losses=$out/losses-checked
 ratios=$out/ratios-checked
 moves=$out/moves-checked
 sheets=$out/sheets-checked
+ponds=$out/ponds-checked
 decks=$out/decks-checked
 mkdir -p "$out"
 scratch=$(mktemp -d) || exit 1
@@ -30,12 +31,13 @@ cd "$here" || exit 1
 . ./kit.sh || exit 1
 # shellcheck disable=SC2086,SC2154
 build "$prog" $sources
-build "$fuzz" fuzz.c engine.c cards.c mover.c sheet.c
-build "$losses" losses.c cards.c bundle.c
-build "$ratios" ratios.c cards.c bundle.c
+build "$fuzz" fuzz.c engine.c cards.c pond.c mover.c sheet.c
+build "$losses" losses.c cards.c pond.c bundle.c
+build "$ratios" ratios.c cards.c pond.c bundle.c
+build "$ponds" ponds.c cards.c bundle.c
 build "$moves" moves.c mover.c bundle.c
-build "$sheets" sheets.c cards.c bundle.c
-build "$decks" decks.c decks_net.c decks_write.c decks_damage.c decks_moves.c decks_sheets.c
+build "$sheets" sheets.c cards.c pond.c bundle.c
+build "$decks" decks.c decks_net.c decks_ponds.c decks_write.c decks_damage.c decks_damage_ponds.c decks_moves.c decks_sheets.c
 
 # Nothing is looked for that was not freed: each run ends at once, and on some
 # machines the search takes seconds a run.
@@ -1894,9 +1896,387 @@ sed 's/flow\[i + j\] +=/flow[i + j] =/' engine.c >"$scratch/engine.c"
 cmp -s engine.c "$scratch/engine.c"
 check 'an engine is spoilt' 1 $?
 spoilt=$scratch/spoilt
-"${CC:-gcc}" -std=c11 -I. -o "$spoilt" "$scratch/engine.c" main.c cards.c mover.c sheet.c || exit 1
+"${CC:-gcc}" -std=c11 -I. -o "$spoilt" "$scratch/engine.c" main.c cards.c pond.c mover.c sheet.c || exit 1
 got=$(printf '%b' "$(sheet_of 1 0 "$pond")$(sheet_of 1 1 "$jr_runoff")$(sheet_of 1 0 "$pond")" | "$spoilt" --sheet 2>&1; echo "status $?")
 check 'a sheet that does not add up' "$(printf '%b' "$up_sheet--\nhec1: the sums of a sheet are not the ordinates of its block\nstatus 2")" "$got"
+
+# ---- Ponds (document 02, CR 6) -----------------------------------------------
+
+# pool MINUTES SV SQ QI [NQ]: an inflow and a pond; RS, SV and SQ on lines 6 to 8,
+# ZZ on the ninth
+pool() { printf '*FREE\\nIT %s,,,%s\\nKK A\\nQI %s\\nKK P\\nRS 1,STOR,0\\nSV %s\\nSQ %s\\nZZ\\n' "$1" "${5:-4}" "$4" "$2" "$3"; }
+
+# A worked example.  Of 121 minutes 1,452 are 12 times as many.  So in hundredths,
+# M times 600,000 units each, a row's W is 12 SV + SQ, and an interval adds old and
+# new inflow and takes off the old outflow twice.
+#
+#   SV 0, 1, 4 acre-feet; SQ 0, 2, 24 cfs; W 0, 12 x 100 + 200 = 1,400 and
+#   12 x 400 + 2,400 = 7,200, or 0; 840,000,000; 4,320,000,000 in M units.
+#   From the first row to the second a seventh of W flows out, 120 of 840; from
+#   there to the third 1,320 of 3,480, that is 11 of 29.
+#
+#   in   W                                                    out
+#    0   0                                                    0
+#    7   0 + 0 + 420,000,000 - 0 = 420,000,000                a seventh: 60,000,000
+#   21   420,000,000 + 420,000,000 + 1,260,000,000
+#          - 120,000,000 = 1,980,000,000                      120,000,000 + 11/29 of 1,140,000,000,
+#                                                             432,413,793.1: 552,413,793
+#   15   1,980,000,000 + 1,260,000,000 + 900,000,000
+#          - 1,104,827,586 = 3,035,172,414                    + 11/29 of 2,195,172,414,
+#                                                             832,651,605.3: 952,651,605
+#    4   3,035,172,414 + 900,000,000 + 240,000,000
+#          - 1,905,303,210 = 2,269,869,204                    + 11/29 of 1,429,869,204,
+#                                                             542,364,180.8: 662,364,180
+#    0   2,269,869,204 + 240,000,000 + 0
+#          - 1,324,728,360 = 1,185,140,844                    + 11/29 of 345,140,844,
+#                                                             130,915,492.6: 250,915,492
+#    0   1,185,140,844 + 0 + 0 - 501,830,984 = 683,309,860    a seventh, 97,615,694.3:
+#                                                             97,615,694
+worked=$(pool 121 0,1,4 0,2,24 0,7,21,15,4 7)
+flows '0 60000000 552413793 952651605 662364180 250915492 97615694' "$worked"
+lists 'A 2 0.00 21.00 3 2820000000\nP 5 0.00 15.88 4 2575960764\nEND 2\n' "$worked"
+lists 'A 2 2.50 21.00 3 2820000000\nP 5 2.50 15.88 4 2575960764\nEND 2\n' "${worked/QI/BA 2.5\\nQI}"    # the area stays
+full "7 2 1\n0 60000000 552413793 952651605 662364180 250915492 97615694\n4120202020200200fa00000000131a4b000000000300000000c915a800000000${whole}5020202020200500fa000000554fc8380000000004000000bc0a8a9900000000$whole\n0\n" \
+    "${worked/QI/BA 2.5\\nQI}" --ordinates 7 --records 80
+sheet 'NO SHEET 5\n' "$worked"
+sheet 'NO SHEET 2\n' "$worked" 1
+# in any order, on several lines, with blanks for the zeros, in both forms
+pond_lines() { printf '*FREE\\nIT 121,,,7\\nKK A\\nQI ,7,21,15,4\\nKK P\\n%sZZ\\n' "$1"; }
+for body in 'SQ 0,2,24\nSV 0,1,4\nRS 1,STOR\n' 'SV ,1,4\nRS 1 STOR\nSQ ,2,24\n' 'SQ\nSV 0\nSQ 0\nSV 1\nRS +1.,STOR,-0\nSQ 2\nKM\nSV 4,,\nSQ 24\nSV\n' \
+    "*FIX\n$(fixed SV '' 1 4)\n$(fixed RS 1 STOR 0)\n$(fixed SQ 0 2 24)\n" "*FIX\nRS1        STOR\nSV       1.      4.00\n*FREE\nSQ0,2\n*FIX\n$(fixed SQ 24)\n" \
+    'RS 1,STOR,0,,,,,,,,,\nSV 0,1\nSV 4\nSQ 0.00,2.00\nSQ +24\n' 'RS1,STOR,0.\nSV0 1 4\nSQ,2,24\n'; do
+    flows '0 60000000 552413793 952651605 662364180 250915492 97615694' "$(pond_lines "$body")"
+done
+
+# where 1,452 V is M Q, half of the old and the new inflow flows out: 22 cfs to an
+# acre-foot in 66 minutes
+flows '0 660000000 1320000000 1320000000 660000000 0' "$(pool 66 0,1 0,22 0,22,22,22,0,0 6)"
+flows '0 660000000 1320000000 1320000000 660000000 0' "$(pool 66 0,.25,.5,1 0,5.5,11,22 0,22,22,22,0,0 6)"
+# rounded down: of 87,156,000,000 W to .01 cfs there are 108,000,000, and so on
+flows '0 743 1982 2971' "$(pool 60 0,1 0,.01 .01,.02,.03,.01)"
+flows '0 2887 7691 11517' "$(pool 7 0,.03,.08 0,.01,.05 .01,.02,.03,.01)"
+# outflow that stays the same from a row on, and none below a row
+flows '0 52631578 60000000 60000000' "$(pool 60 0,.1,1 0,1,1 1,2,3,4)"
+flows '0 10950283 98457971 168654339' "$(pool 60 0,.1,1 0,0,10 1,2,3,4)"
+flows '0 0 0 0' "$(pool 60 0,1 0,0 1,2,3,4)"
+# more than comes in, where a small rise lets out much
+flows '0 0 9470450628 2536541065 9456481328 2550482221 9442568259 2564367261' "$(pool 60 0,10,10.01 0,0,240 100,100,100,100,100,100,100,100 8)"
+# no inflow, and one ordinate: the first outflow is 0 whatever comes in
+flows '0 0 0 0' "$(pool 60 0,1 0,1 0)"
+flows '0 0 0 0' "$(pool 60 0,1 0,1 '')"
+flows '0' "$(pool 60 0,.01 0,0 100000 1)"
+flows '0' "$(pool 1440 0,.01 0,0 100000 1)"
+# the largest table and flows: products beyond 64 bits
+flows '0 5975104034434 3012344681266 12499204909' "$(pool 1440 0,99999.99 0,100000 100000,100000)"
+flows '0 2987552017217 5987500366459 5999948134925' "$(pool 1440 0,99999.99 0,100000 0,100000,100000,100000)"
+# W that lands on the last row, on an inner row and between: 60 minutes, rows of
+# 1,452 x 5 + 60 x 121 = 60 x 242 hundredths
+flows '0 72600000 72600000 0' "$(pool 60 0,.05 0,1.21 0,2.42)"
+flows '0 72600000 72600000 0' "$(pool 60 0,.05,1 0,1.21,9 0,2.42)"
+flows '0 0 0 72600000' "$(pool 60 0,.05 0,1.21 ,,,2.42)"
+flows '0 72600000 72600000 72600000' "$(pool 60 0,.05 0,1.21 2.42,0,2.42,0)"
+refused 20 9 "$(pool 60 0,.05 0,1.21 0,2.43)"
+refused 20 9 "$(pool 60 0,.05 0,1.21 ,,,2.43)"          # in the last interval alone
+refused 20 9 "$(pool 60 0,.05 0,1.21 2.43)"
+refused 20 9 "$(pool 60 0,.05 0,1.20 0,2.42)"
+refused 20 9 "$(pool 60 0,.01 0,0 100000)"
+flows '0 72600000 72600000 0' "$(pool 60 0,.05,.06 0,1.21,1.21 0,2.42)"
+# by a single unit of W: 14.52 cfs for a minute fill .01 acre-foot, and a depth of
+# one unit runs off besides
+drop_in() { printf '*FREE\\nIT 1,,,2\\nKK A\\nQI 0,14.52\\nKK U\\nBA 1\\nPI ,.0001\\nLU ,%s\\nUI .01\\nKK C\\nHC 2\\nKK P\\nRS 1,STOR\\nSV 0,.01\\nSQ 0,0\\nZZ\\n' "$1"; }
+flows '0 0' "$(drop_in .006)"
+text=$(drop_in .0059)
+flows '0 871200001' "${text/SV 0,.01/SV 0,.02}" 3
+refused 20 16 "$(drop_in .0059)"
+
+# ponds below ponds, and what a pond takes: the one held last
+text=$(pool 66 0,1 0,22 0,22,22,22,0,0 6)
+flows '0 330000000 990000000 1320000000 990000000 330000000' "${text%'ZZ\n'}KK Q\nRS 1,STOR\nSV 0,1\nSQ 0,22\nZZ\n"
+flows '0 0 0 0' "${free}KK Z\nQI 9,9,9,9\nKK A\nQI 0\nKK B\nRS 1,STOR\nSV 0,1\nSQ 0,1\nKK C\nHC 2\nZZ\n" 3
+flows '540000000 540000000 540000000 540000000' "${free}KK Z\nQI 9,9,9,9\nKK A\nQI 0\nKK B\nRS 1,STOR\nSV 0,1\nSQ 0,1\nKK C\nHC 2\nZZ\n"
+lists 'A 2 1.50 1.00 1 60000000\nB 2 2.25 0.00 1 0\nR 5 2.25 0.00 1 0\nD 3 3.75 1.00 1 60000000\nEND 4\n' \
+    "${free}KK A\nBA 1.5\nQI 1\nKK B\nQI 0\nBA 2.25\nKK R\nRS 1,STOR\nSV 0,1\nSQ 0,1\nKK D\nHC 2\nZZ\n"
+refused 15 47 "$free${twenty}KK B\nRS 1,STOR\nSV 0,1\nSQ 0,1\nZZ\n"     # twenty held: a pond adds none
+# a table does not outlive its block
+lake='KK P\nRS 1,STOR\nSV 0,1\nSQ 0,1\n'               # 4 lines
+refused 19 13 "$free$inflow${lake}KK Q\nRS 1,STOR\nSV\nSQ\nZZ\n"
+refused 9 10 "$free$inflow${lake}KK Q\nZZ\n"
+refused 9 11 "$free$inflow${lake}KK Q\nRS 1,STOR\nZZ\n"
+
+# 4, 5, 6 and 7
+for line in rs Rs sv sq S SE SS SL 'R' ' RS' 'R S'; do refused 4 5 "$free$inflow$line 1,STOR\n"; done
+for line in RS SV SQ 'RS 1,STOR' 'RS x' 'SV 0,1' 'SV x' 'SQ -1'; do
+    refused 5 1 "$line\n"
+    refused 5 3 "$free$line\nKK A\n"
+done
+for fields in 1,STOR 1,STOR,0 '' x 2,STOR 1,FLOW 1,STOR,1 1,STOR,0,0; do
+    refused 5 5 "${free}KK P\nRS 1,STOR,0\nRS $fields\nZZ\n"
+    refused 5 8 "${free}KK P\nRS 1,STOR,0\nSV 0,1\nKM\nSQ 0,1\nRS $fields\nZZ\n"
+done
+refused 5 6 "${free}KK P\nRS 1,STOR\nHC 2\nRS 1,STOR\nZZ\n"     # even where RS makes no set
+# rs FIELDS: an RS line, the sixth, of a pond that would be accepted
+rs() { printf '%s%sKK P\\nRS %s\\nSV 0,1\\nSQ 0,1\\nZZ\\n' "$free" "$inflow" "$1"; }
+lake_list="${one_a}P 5 0.00 0.04 2 6590959\nEND 2\n"
+for fields in 1,STOR 1,STOR,0 1,STOR,-0 +1.,STOR,0. 000000001,STOR,000000000; do lists "$lake_list" "$(rs "$fields")"; done
+for fields in 1,STOR,. 1.0,STOR 1.00,STOR,0 x,STOR 1-,STOR ,STOR,x 1,STOR,0.0 1,STOR,.0 1,STOR,x 1,STOR,- 0000000001,STOR 1,STOR,0000000000 \
+    1,STOR,0,0 1,STOR,0,1 1,STOR,,0 1,STOR,,,x 1,STOR,,,,,,,,0 1,STOR,,,,,,,,,0 STOR,1 STOR 1.0,FLOW x,,1 2,FLOW,x 0,STOR,0,0 1,,0,0 \
+    1,STOR,1,0 '1 ST OR' '1 STOR R' 1,S,T,O,R; do
+    refused 6 6 "$(rs "$fields")"
+done
+for fields in '' , ,,, 0,STOR 2,STOR -1,STOR ,STOR ,STOR,0 50,STOR 999999999,STOR 1 1, 1,,0 1,stor 1,Stor 1,STOr 1,STO 1,STORE 1,STOR1 1,STORAGE 1,STORSTORSTORSTOR \
+    1,FLOW 1,ELEV 1,1 1,0 1,STOR. 1,-STOR 1,PREC "1,'STOR'" 1,STOR,1 1,STOR,-1 1,STOR,+2. 1,STOR,999999999 0,FLOW,1 2 -1 0; do
+    refused 7 6 "$(rs "$fields")"
+done
+fix_rs="$(fixed IT 60 '' '' 4)\nKK A\n$(fixed QI 1)\nKK P\n$(fixed SV 0 1)\n$(fixed SQ 0 1)\n"     # 6 lines
+lists "$lake_list" "$fix_rs$(fixed RS 1 STOR 0)\nZZ\n"
+lists "$lake_list" "${fix_rs}RS1       STOR\nZZ\n"
+for line in "$(fixed RS 1 'ST OR')" "$(fixed RS 1 'STOR 0')" "$(fixed RS 1 STOR,0)" "$(fixed RS 1 'S T O R')" "$(fixed RS 1 stor)" "$(fixed RS 1)" \
+    "$(fixed RS '' STOR)" "$(fixed RS 1 STOR 1)" RS "$(fixed RS 1 STORSTOR)"; do
+    refused 7 7 "$fix_rs$line\nZZ\n"
+done
+for line in "$(fixed RS 1,STOR)" "$(fixed RS 1 STOR 0.0)" "$(fixed RS '1 1' STOR)" "$(fixed RS 1 STOR 0 0)" "$(fixed RS 1 STOR '' '' '' '' '' '' '' 0)" \
+    "$(fixed RS 1 '' STOR)" 'RS 1 STOR' 'RS     1   STORAGE OF A LAKE'; do
+    refused 6 7 "$fix_rs$line\nZZ\n"
+done
+# table SV SQ: lines 7 and 8 of a pond in 60 minutes; the first is 0, so W is 0 too
+table() { pool 60 "$1" "$2" 0; }
+for value in 99999.99 000099999. .01 +1; do flows '0 0 0 0' "$(table "0,$value" 0,-0)"; done
+for value in 100000 100000.00 -.01 -1 999999999 1,-1; do refused 7 7 "$(table "0,$value" 0,1)"; done
+for value in 1.000 x 1- .001 0.000 0000000001 . 1,x 1,2,3,4,5,6,7,8,9,10,11; do refused 6 7 "$(table "0,$value" 0,1)"; done
+flows '0 0 0 0' "$(table 0,99999.99 0,100000)"
+flows '0 0 0 0' "$(table 0,99999.99 0,100000.00)"
+for value in 100000.01 100001 -.01 -1 999999999 1,-1; do refused 7 8 "$(table 0,1 "0,$value")"; done
+for value in 1.000 x 1- .005 0.000 0000000001 . 1,x 1,2,3,4,5,6,7,8,9,10,11; do refused 6 8 "$(table 0,1 "0,$value")"; done
+
+# 8: twenty values of each, on two lines and on twenty
+ten=0,1,2,3,4,5,6,7,8,9
+more=10,11,12,13,14,15,16,17,18,19
+twenty_rows="${free}KK A\nQI 0\nKK P\nRS 1,STOR\nSV $ten\nSV $more\n"    # 8 lines
+flows '0 0 0 0' "${twenty_rows}SQ $ten\nSQ $more\nZZ\n"
+refused 8 9 "${twenty_rows}SV 20\nSQ $ten\nSQ $more\nZZ\n"
+refused 8 9 "${twenty_rows}SV 0\n"
+refused 8 11 "${twenty_rows}SQ $ten\nSQ $more\nSQ 20\nZZ\n"
+refused 8 13 "${twenty_rows}SQ $ten\nSV\nKM\nSQ ,,,,,,,,,9\nSQ ,0\nZZ\n"
+refused 8 10 "${twenty_rows}SQ $ten\nSV ,1\nZZ\n"
+singles=$(for k in $(seq 0 19); do printf 'SV %s\\nSQ %s\\n' "$k" "$k"; done)
+flows '0 0 0 0' "${free}KK A\nQI 0\nKK P\n${singles}RS 1,STOR\nZZ\n"
+refused 8 46 "${free}KK A\nQI 0\nKK P\n${singles}SQ 20\nRS 1,STOR\nZZ\n"
+refused 8 6 "${free}KK A\nSV $ten\nSV $more\nSV 0\n"         # in any block
+refused 9 6 "${free}KK A\nSV $ten\nSV $more\nZZ\n"
+
+# 9: every choice of records with one of a pond's, behind two held hydrographs
+pond_cards=('RS 1,STOR\n' 'SV 0,1\n' 'SQ 0,1\n')
+: >"$scratch/sets"
+text=
+for ((set = 256; set < 2048; set++)); do
+    body= count=0
+    for ((k = 0; k < 11; k++)); do
+        if ((set >> k & 1)); then
+            if ((k < 8)); then body+=${cards[k]}; else body+=${pond_cards[k - 8]}; fi
+            count=$((count + 1))
+        fi
+    done
+    printf -v deck '%b' "${two}KK C\n${body}ZZ\n"
+    printf '%b%s' "\\x$(printf '%02x' ${#deck})\\x00\\x00\\x00" "$deck" >>"$scratch/sets"
+    if ((set == 1792)); then text+="REFUSED 15 11|--|"; else text+="REFUSED 9 $((8 + count))|--|"; fi
+done
+check 'sets with a record of a pond' "$text" "$("$prog" --bundle <"$scratch/sets" | tr '\n' '|')"
+
+# 10, and 19 behind it
+refused 10 7 "${free}KK P\nRS 1,STOR\nSV 0,1\nSQ 0,1\nZZ\n"
+refused 10 7 "${free}KK P\nRS 1,STOR\nSV 0,1\nSQ 0,1\nKK Q\n"
+refused 10 7 "${free}KK P\nRS 1,STOR\nSV 1\nSQ 0,1\nZZ\n"
+refused 10 7 "${free}KK P\nRS 1,STOR\nSV\nSQ\nZZ\n"
+
+# 19: bad SV SQ [MINUTES]
+bad() { refused 19 9 "$(pool "${3:-60}" "$1" "$2" 0)"; }
+bad '' ''
+bad 0 0
+bad 0 ''
+bad '' 0
+bad , ,
+bad 0,1 0
+bad 0 0,1
+bad 0,1,2 0,1
+bad 0,1 0,1,2
+bad 0,1 ''
+bad .01,1 0,1
+bad 0,1 .01,1
+bad .01,1 .01,1
+bad 1,2 0,1
+bad 0,0 0,0
+bad 0,0 0,1
+bad 0,1,1 0,1,2
+bad 0,1,1 0,1,1
+bad 0,1,2,2 0,1,2,3
+bad 0,2,1 0,1,1
+bad 0,2,1.99 0,0,0
+bad 0,1,2,3,2.99 0,0,0,0,0
+bad 0,1,2 0,2,1
+bad 0,1,2 0,.02,.01
+bad 0,1,2,3 0,1,1,.99
+bad 0,1,,3 0,1,2,3
+bad 0,1,2 0,1,
+bad 0,1 0,24.21
+bad 0,.05 0,1.22
+bad 0,.01 0,14.53 1
+bad 0,.01 0,.02 1440
+bad 0,1,2 0,24.21,24.21
+bad 0,1,2 0,24.2,48.41
+flows '0 0 0 0' "$(pool 60 0,1 0,24.20 0)"         # 1,452 x 100 = 60 x 2,420
+flows '0 0 0 0' "$(pool 60 0,1,1.01 0,24.2,24.2 0)"
+flows '0 0 0 0' "$(pool 1 0,.01 0,14.52 0)"
+flows '0 0 0 0' "$(pool 1440 0,.01 0,.01 0)"        # 1,452 over 1,440
+flows '0 0 0 0' "$(pool 1440 0,1.20,99999.99 0,1.21,100000 0)"  # 1,452 x 120 = 1,440 x 121
+bad 0,1.20 0,1.22 1440
+bad 0,99999.99 0,100000.00,0 1440
+# in its place: before 14 and 15, behind the line's own
+bad_lake='KK P\nRS 1,STOR\nSV 0,0\nSQ 0,1\n'            # 4 lines
+refused 19 11 "$two${bad_lake}ZZ\n"
+refused 15 11 "$two${lake}ZZ\n"
+refused 19 405 "$free$inflow$(times 198 'KK R\nRM 1,1,.2\n')${bad_lake}KK S\n"
+refused 14 405 "$free$inflow$(times 198 'KK R\nRM 1,1,.2\n')${lake}KK S\n"
+refused 6 9 "$free$inflow${bad_lake}KK ,\n"
+refused 3 9 "$free$inflow${bad_lake}ZZ\x80\n"
+refused 4 9 "$free$inflow${bad_lake}XX\n"
+refused 9 10 "$free$inflow${bad_lake}BA 1\nZZ\n"
+refused 16 0 "$free$inflow$bad_lake"
+refused 13 8 "${free}KK A\nBA 1\nPI 20\nLU\nUI 5000.01\n${bad_lake}ZZ\n"    # the earlier line
+refused 19 9 "$free$inflow${bad_lake}KK B\nBA 1\nPI 20\nLU\nUI 5000.01\nZZ\n"
+refused 19 9 "$(pool 60 0,0 0,1 100000,100000)"         # 19 before 20
+full "REFUSED 19 9\n0 0 0 0 0\n$(zeros 81)\n0\n" "$(pool 60 0,0 0,1 1)" --ordinates 5 --records 81 --named 1
+full "REFUSED 19 9\n\n\n0\n" "$(pool 60 0,0 0,1 1)" --ordinates 0 --records 0 --named 9
+full "REFUSED 20 9\n0 0 0 0 0\n$(zeros 81)\n0\n" "$(pool 60 0,.01 0,0 1)" --ordinates 5 --records 81 --named 1
+full "REFUSED 20 9\n\n\n0\n" "$(pool 60 0,.01 0,0 1)" --ordinates 0 --records 0 --named 9
+full "REFUSED 1 0\n0\n00\n0\n" "$(pool 60 0,.01 0,0 1)" --ordinates 1 --records 1 --work 5999
+full "REFUSED 17 0\n0 0 0\n$(zeros 80)\n0\n" "$(pool 60 0,1 0,1 1)" --ordinates 3 --records 80
+
+# 20 beside others of its line
+over_lake='KK P\nRS 1,STOR\nSV 0,.01\nSQ 0,0\n'         # 4 lines; an inflow of 1 cfs is too much
+refused 20 9 "$free$inflow${over_lake}ZZ\n"
+refused 20 11 "$two${over_lake}ZZ\n"                    # 20 before 15
+refused 20 405 "${free}KK A\nQI 1,1,1,1\n$(times 198 'KK R\nRM 1,1,.2\n')${over_lake}KK S\n"    # and before 14
+refused 6 9 "$free$inflow${over_lake}KK ,\n"
+refused 9 10 "$free$inflow${over_lake}QI 1\nZZ\n"
+refused 16 0 "$free$inflow$over_lake"
+
+# 20 under a ratio.  A has 100 cfs in its first interval, times the ratio; the
+# pond holds just that under 1.00: 1,452 x 250 + 60 x 3,950 = 60 x 10,000.
+dam() { printf '%sJR PREC,%s\\n%sKK A\\nBA 1\\nPB 100\\nPI 1\\nLU\\nUI 1\\nKK P\\nRS 1,STOR\\nSV 0,2.5\\nSQ 0,39.5\\n%s' "$free" "$1" "${3:-}" "${2:-ZZ\\n}"; }
+flows '0 2370000000 497700000 104517000' "$(dam 1)"
+flows '0 1185000000 248850000 52258500' "$(dam .5)"
+flows '0 2370000000 497700000 104517000' "$(dam .5,1,.01)" 2 2
+lists 'RATIO 1.00\nA 1 1.00 100.00 1 6000000000\nP 5 1.00 39.50 2 2972217000\nRATIO 0.50\nA 1 1.00 50.00 1 3000000000\nP 5 1.00 19.75 2 1486108500\nEND 2\n' "$(dam 1,.5)"
+for ratios_given in 1.01 1,1.01 1.01,1 .5,1.01,1 9.99,.01 .01,.01,.01,9.99; do refused 20 14 "$(dam "$ratios_given")"; done
+full "REFUSED 20 14\n0 0 0 0\n$(zeros 160)\n0\n" "$(dam 1,1.01)" --ordinates 4 --records 160 --named 1 --ratio 1
+# 15 under the other ratio, at the same line, and 14
+refused 15 16 "$(dam 1 '' "$inflow")"
+refused 20 16 "$(dam 1,1.01 '' "$inflow")"
+refused 20 16 "$(dam 1.01,1 '' "$inflow")"
+refused 14 410 "$(dam 1 'KK S\n' "$inflow$(times 197 'KK R\nRM 1,1,.2\n')")"
+refused 20 410 "$(dam 1,1.01 'KK S\n' "$inflow$(times 197 'KK R\nRM 1,1,.2\n')")"
+refused 20 410 "$(dam 1.01,1 'KK S\n' "$inflow$(times 197 'KK R\nRM 1,1,.2\n')")"
+# what stands behind the line is hidden, and what stands before it comes first
+for rest in XX ID 'QI -1' 'BA x' '\x80' ZZ ''; do
+    refused 20 14 "$(dam 1,1.01 "KK B\n$rest\n")"
+    refused 20 14 "$(dam 1.01,1 "KK B\n$rest\n")"
+done
+refused 4 15 "$(dam 1,.99 'KK B\nXX\n')"
+refused 6 14 "$(dam 1,1.01 'KK ,\n')"
+flood_b='KK B\nBA 1\nPB 100\nPI 1\nLU\nUI 1000.01\n'   # 6 lines, 100,001 cfs under 1.00
+refused 13 20 "$(dam 1 "${flood_b}ZZ\n")"
+refused 20 14 "$(dam 1,1.01 "${flood_b}ZZ\n")"          # 13 under 1.00, at a later line
+refused 20 14 "$(dam 1.01,1 "${flood_b}ZZ\n")"
+refused 13 10 "$(dam 1,1.01 'ZZ\n' "$flood_b")"         # 13 at an earlier line
+refused 13 10 "$(dam .5,1.01,1 'ZZ\n' "$flood_b")"
+refused 13 10 "$(dam .99,1.01 'ZZ\n' "$flood_b")"       # under 1.01 alone, which meets 20 later
+refused 20 20 "$(dam .99,1.01 'ZZ\n' "${flood_b/1000.01/900}")"
+# 19 knows no ratio
+refused 19 14 "$(dam .01,9.99 | sed 's/SQ 0,/SQ 1,/')"
+
+# Any pond, worked in another way: in doubles, which are exact up to 2^53, with
+# the share of a row found bit by bit.  Tables and flows are kept so small that
+# three times a row's W stays below that.
+pools=200
+awk -v n="$pools" -v scratch="$scratch" '
+    function chance(below) {
+        seed = seed * 16807 % 2147483647
+        return seed % below
+    }
+    function hundredths(v) { return sprintf("%d.%02d", (v - v % 100) / 100, v % 100) }
+    function share(rise, above, span,    bit, whole, rest, q) {
+        whole = rest = 0
+        for (bit = 2 ^ 42; bit >= 1; bit /= 2) {
+            rest *= 2
+            if (rise >= bit) {
+                rise -= bit
+                rest += above
+            }
+            q = (rest - rest % span) / span
+            rest -= q * span
+            whole = 2 * whole + q
+        }
+        return whole
+    }
+    function one(k,    nq, rows, i, m, most, sv, sq, qi, deck, out, r) {
+        nq = chance(3) ? 1 + chance(24) : 1 + chance(100)
+        rows = chance(4) ? 2 + chance(19) : 2
+        m = chance(3) ? 1 + chance(1440) : 60
+        v[0] = q[0] = 0
+        sv = sq = "0"
+        for (i = 1; i < rows; i++) {
+            v[i] = v[i - 1] + 1 + chance(chance(2) ? 30 : 3000)
+            most = (1452 * v[i] - 1452 * v[i] % m) / m
+            if (most > 1000000) most = 1000000
+            q[i] = chance(4) == 0 ? q[i - 1] : chance(3) == 0 ? most : q[i - 1] + chance(most - q[i - 1] + 1)
+            sv = sv (i % 8 ? "," : "\nSV ") hundredths(v[i])
+            sq = sq (i % 8 ? "," : "\nSQ ") hundredths(q[i])
+        }
+        for (i = 0; i < rows; i++) w[i] = 600000 * (1452 * v[i] + m * q[i])
+        most = 1 + chance(2) * chance(100) + (w[rows - 1] / 600000 / m / (1 + chance(nq)) - 0.5) % 1000000
+        most -= most % 1
+        qi = ""
+        for (i = 1; i <= nq; i++) {
+            in_[i] = chance(3) ? 0 : chance(most + 1)
+            qi = qi (i % 8 == 1 ? (i > 1 ? "\n" : "") "QI " : ",") hundredths(in_[i])
+            in_[i] *= 600000
+        }
+        deck = scratch "/pool." k
+        printf "*FREE\nIT %d,,,%d\nKK A\n%s\nKK P\nSQ %s\nRS 1,STOR\nSV %s\nZZ\n", m, nq, qi, sq, sv >deck
+        close(deck)
+        out = "0"
+        water = flow = 0
+        for (i = 2; i <= nq; i++) {
+            water += m * (in_[i - 1] + in_[i]) - 2 * m * flow
+            if (water > w[rows - 1]) {
+                out = "REFUSED 20"
+                break
+            }
+            for (r = rows - 2; r > 0 && w[r] > water; r--) ;
+            flow = 600000 * q[r] + share(600000 * (q[r + 1] - q[r]), water - w[r], w[r + 1] - w[r])
+            out = out sprintf(" %.0f", flow)
+        }
+        print nq
+        print out
+    }
+    BEGIN {
+        seed = 20261116
+        for (k = 1; k <= n; k++) one(k)
+    }' >"$scratch/pools"
+over=0
+for ((k = 1; k <= pools; k++)); do
+    read -r nq && read -r text || break
+    if [ "$text" = 'REFUSED 20' ]; then
+        over=$((over + 1))
+        got=$("$prog" <"$scratch/pool.$k")
+        got=${got% *}
+    else
+        got=$("$prog" --full --ordinates "$nq" <"$scratch/pool.$k" | sed -n 2p)
+    fi
+    check "pond $k" "$text" "$got"
+done <"$scratch/pools"
+check 'as many ponds as were asked for' $((pools + 1)) "$k"
+check 'some of them too small' yes "$([ "$over" -gt 10 ] && [ "$over" -lt $((pools / 2)) ] && echo yes)"
 
 # ---- The counters ----------------------------------------------------------
 
@@ -1990,8 +2370,8 @@ check 'moves: another seed does not' 1 $?
 # and about a half; and far above every count in a deck that is refused with 10.
 known=$(sheet_of 1 0 "$pond")$(sheet_of 0 0 "$pond")$(sheet_of 5 0 "$pond")$(sheet_of 1 1 "$jr_runoff")
 known+=$(sheet_of 0 0 "$(runoff 1 4 ,.0059 .0001 .29,.3,.31)")$(sheet_of 1000 0 "${pond/HC 2/HC 3}")
-# all, sheets, kinds 2 to 4, refused by 2 to 18
-expected='6,3,0,1,0,0,0,0,0,0,0,0,0,1,0,0,0,0,0,0,1,0,'
+# all, sheets, kinds 2 to 5, refused by 2 to 20
+expected='6,3,0,1,0,0,0,0,0,0,0,0,0,0,1,0,0,0,0,0,0,1,0,0,0,'
 # block 0, with a sheet, the last by its number; ratio 0 of several, without JR,
 # ratio 1 without JR; block, ratio or both one above, ratio 2 without JR, far
 # above, in a refused deck; ratios 1 to 9
