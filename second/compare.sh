@@ -4,9 +4,10 @@
 # By default 20,000 decks of all sorts, 2,000 cases with rooms of all sizes, 4,000 files of records to move, 2,000 decks
 # with a block and a ratio to make a sheet of, 2,000 pairs of decks that draw one network (which must also answer as
 # such), and a few decks, one at a time, on both sides of 60,000 bytes, one of them with the most blocks and ratios that
-# there can be.
+# there can be, one with the most ponds.
 # Fails too when a refusal is missing: one that depends on rooms in the cases, any other in the bundle, one of the mover
-# in the moves, any but that of short work words in the sheets.
+# in the moves, any but that of short work words in the sheets; and when the bundle lacks an edge or a fault of ponds or does
+# not tell a wrong rule of ponds from the right one.
 # The last line is 'N passed, M failed', where each deck, case, file, sheet and pair counts as one; the exit status
 # agrees with it.
 #
@@ -130,6 +131,12 @@ both() {
 "$decks" bundle "$seed" "$bundle" >"$work/decks" || die "the deck writer failed"
 both bundle --bundle
 compare bundle "$bundle" "$(deck_refusals)"
+if "$root/target/second/ponds" <"$work/decks" >"$work/said"; then
+    passed=$((passed + 1))
+else
+    failed=$((failed + 1))
+    grep ': MISSING$' "$work/said"
+fi
 
 "$decks" cases "$seed" "$cases" >"$work/decks" || die "the deck writer failed"
 both rooms --cases
@@ -175,6 +182,8 @@ single() {
 for bytes in 59999 60000 60001 65536 65537 200000; do single "$bytes"; done
 "$decks" big "$seed" ratios >"$work/decks" || die "the deck writer failed"
 for bytes in 60000 60001; do single "$bytes"; done
+"$decks" big "$seed" ponds >"$work/decks" || die "the deck writer failed"
+single 60000
 : >"$work/decks"
 single 0
 

@@ -143,7 +143,7 @@ int damage6_pond(Deck *d, const Style *s)
 
 int damage7_pond(Deck *d, const Style *s)
 {
-    static const char *const steps[] = { "0", "2", "", "", "-1", "+10", "50", "-0", "999999" };
+    static const char *const steps[] = { "0", "2", "-1", "+10", "50", "-0", "999999" };
     static const char *const start[] = { "1", "-1", "+2.", "100", "-100" };
     static const char *const words[] = { "STO", "STORE", "STOR1", "STORAGE", "FLOW", "ELEV", "1", "0", "STOR.", "-STOR", "ROTS", "'STOR'", "STORSTOR" };
     static const char *const small[] = { "stor", "Stor", "STOr", "sTOR" };
@@ -154,15 +154,16 @@ int damage7_pond(Deck *d, const Style *s)
     if (at < 0 || list < 0 || other < 0)
         return 0;
     Line *l = &d->l[at];
-    switch (rnd(10)) {
+    switch (rnd(12)) {
     case 0: return set_field(l, s, 0, steps[rnd(COUNT(steps))]);
     case 1: return set_field(l, s, 2, start[rnd(COUNT(start))]);
-    case 2: return set_field(l, s, 1, "");
-    case 3: return set_field(l, s, 1, small[rnd(COUNT(small))]);
-    case 4: return l->form == FIXED && set_field(l, s, 1, split[rnd(COUNT(split))]);
-    case 5: return l->form == FREE && set_field(l, s, 1, large[rnd(COUNT(large))]);
-    case 6: k = rnd(d->l[list].nf); return set_field(&d->l[list], s, k, storage[rnd(COUNT(storage))]);
-    case 7: k = rnd(d->l[other].nf); return set_field(&d->l[other], s, k, outflow[rnd(COUNT(outflow))]);
+    case 2: return set_field(l, s, 0, "");
+    case 3: return set_field(l, s, 1, "");
+    case 4: return set_field(l, s, 1, small[rnd(COUNT(small))]);
+    case 5: case 6: case 7:                        /* what one form alone can hold */
+        return set_field(l, s, 1, l->form == FIXED ? split[rnd(COUNT(split))] : large[rnd(COUNT(large))]);
+    case 8: k = rnd(d->l[list].nf); return set_field(&d->l[list], s, k, storage[rnd(COUNT(storage))]);
+    case 9: k = rnd(d->l[other].nf); return set_field(&d->l[other], s, k, outflow[rnd(COUNT(outflow))]);
     default: return set_field(l, s, 1, words[rnd(COUNT(words))]);
     }
 }
