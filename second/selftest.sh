@@ -2326,6 +2326,48 @@ check 'ratios: a count of 0 fails' 1 $?
 printf '%b' "$(sized "$pond")\x01" | "$ratios" >"$scratch/said" 2>&1
 check 'ratios: input cut short' 2 $?
 
+# The counter of ponds.  Accepted are the worked example, whose inflow has an
+# area, and a pond that is filled to its last row, where 1,452 V is M Q; both let
+# their water fall again.  Refused: equal SV in the last row; a hundredth too much
+# in the last interval; too much under the second of two ratios, where the first
+# meets 15; small letters; a second RS; no SQ.  A deck without a pond is the last.
+known=$(sized "${worked/QI/BA 2.5\\nQI}")$(sized "$(pool 60 0,.05 0,1.21 0,2.42)")$(sized "$(pool 60 0,1,1 0,1,2 0)")
+known+=$(sized "$(pool 60 0,.05 0,1.21 ,,,2.43)")$(sized "$(dam 1,1.01 '' "$inflow")")$(sized "${free}KK P\nRS 1,stor\n")
+known+=$(sized "${free}KK P\nRS 1,STOR\nRS x\n")$(sized "$free${inflow}KK P\nRS 1,STOR\nSV 0,1\nZZ\n")$(sized "$small")
+# all decks, accepted, with a pond
+expected='9,3,2,'
+# ponds: all; rows; same outflow, none; exact, near; largest; at the last, inner
+# row; back, several rows, higher, wide; no inflow, NQ 1; below a pond, runoff,
+# inflow, confluence, routing; ratios, twenty, area; lines and forms
+expected+='2,1,1,0,0,0,1,0,0,1,0,2,0,0,1,0,0,0,0,2,0,0,0,0,1,0,0,0,0,0,2,0,0,'
+# (a) to (t)
+expected+='1,1,1,1,2,1,3,3,1,1,1,2,1,0,0,0,0,2,1,1,'
+# a second RS, 6 on RS, 7 on RS, SV and SQ; parts of the set, all with another
+expected+='1,0,0,0,0,0,0,0,0,1,0,0,0,0,0,0,0,0,0,0,1,0,0,0,0,0,0,0,0,0,0,0,0,'
+# 10, 13, 19, 20
+expected+='0,0,0,1,0,0,0,0,0,0,1,0,0,0,0,1,0,0,2,0,0,1,1,0,0,1,0,0,0,1,0,1,'
+got=$(printf '%b' "$known" | "$ponds" | awk '$1 ~ /^[0-9]/ { printf "%s,", $1 }')
+check 'ponds counted' "$expected" "$got"
+printf '%b' "$known" | "$ponds" >"$scratch/said"
+check 'ponds: a count of 0 fails' 1 $?
+check 'ponds: what is missing' "$(grep -o '\b0,' <<<"$expected" | grep -c .)" "$(grep -c ': MISSING$' "$scratch/said")"
+printf '%b' "$(sized "$worked")\x01" | "$ponds" >"$scratch/said" 2>&1
+check 'ponds: input cut short' 2 $?
+# the deck writer's own decks, with memory watched: lawful ones are accepted, and
+# its long chains of ponds too
+"$decks" sound 2 400 | "$prog" --bundle >"$scratch/said"
+check 'sound decks: none is refused' 0 "$(grep -c '^REFUSED' "$scratch/said")"
+check 'sound decks: some have ponds' yes "$([ "$(grep -c '^[^ ]* 5 ' "$scratch/said")" -gt 100 ] && echo yes)"
+for number in 19 20; do
+    "$decks" damaged 2 100 "$number" | "$prog" --bundle >"$scratch/said"
+    check "damaged decks: $number is met" yes "$([ "$(grep -c "^REFUSED $number " "$scratch/said")" -gt 40 ] && echo yes)"
+done
+for rows in 2 5 20; do
+    check "a chain of ponds of $rows rows" 'END 200' "$("$decks" big 2 ponds 200 300 "$rows" | "$prog" | tail -n 1)"
+done
+check 'the longest chain fits' yes "$([ "$("$decks" big 2 ponds | wc -c)" -le 60000 ] && echo yes)"
+check 'no table of one row' 2 "$("$decks" big 2 ponds 200 300 1 >"$scratch/said" 2>&1; echo $?)"
+
 # The counter of moves.  To the new form: a record moved; the same with a room as
 # long as the file, which is enough by (k) alone.  To the old form: refused by 3
 # for place 2 in a room that is too short, which (f), (i) and (j) answer by 4;
