@@ -108,7 +108,7 @@ static int has_pond(const Listing *l)
 static int refusal(Listing *l)
 {
     int number, line, used = 0;
-    unsigned blocks;
+    unsigned blocks = 0;
     if (l->lines == 1 && sscanf(l->line[0], "REFUSED %d %d%n", &number, &line, &used) == 2
         && l->line[0][used] == 0)
         return number;

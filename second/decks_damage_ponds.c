@@ -375,7 +375,7 @@ static int spill_in(Deck *d, int at, const Net *n, const Style *s, int how)
    a hundred inches on one unit ordinate, which makes whole hundredths. */
 static int pond_gate(Deck *d, int at, const Net *n, const Style *s, int ratio)
 {
-    int low = 2904 / ratio + 1, high = LIMIT_QI / top_ratio(n), start = at;
+    int low = 2904 / ratio + 1, high = lesser(LIMIT_QI / top_ratio(n), 99999), start = at;   /* six bytes, as field 1 has */
     char unit[16];
     Block b;
     if (n->nq < 2 || low > high)
