@@ -97,7 +97,13 @@ static struct wrong_rule {
     { { .unasked = true }, { "(s) no 19", 0 } }
 };
 
+/* Rules that are not the pond's own: what an engine would answer by them is
+ * seen from the right answer and from what stands beside it. */
 static struct tally area_lost = { "(t) the area not kept", 0 };
+static struct tally before_10 = { "(u) 19 told before 10", 0 };
+static struct tally by_number = {
+    "(v) 19 and 20 told behind 14 and 15, as they are counted", 0
+};
 
 enum { WRONG_RULES = sizeof wrong_rules / sizeof *wrong_rules };
 
@@ -975,9 +981,10 @@ static void look_at_refused(const uint8_t *deck, size_t length,
         break;
     case TOO_FEW_HELD:
         count_block_fault(is_pond, NONE_HELD);
-        count_block_fault(is_pond && !make_right_pond(&cards, at_line.minutes,
-                                                      &pond),
-                          NONE_HELD_BROKEN);
+        if (is_pond && !make_right_pond(&cards, at_line.minutes, &pond)) {
+            count_block_fault(true, NONE_HELD_BROKEN);
+            count_if(true, &before_10);
+        }
         break;
     case FLOW_OVER_LIMIT:
         count_block_fault(begins_pond(deck, length, answer->line),
@@ -989,6 +996,8 @@ static void look_at_refused(const uint8_t *deck, size_t length,
         count_19(&at_line);
         count_block_fault(beside == TOO_MANY_BLOCKS, BESIDE_14_19);
         count_block_fault(beside == NOT_ONE_HELD, BESIDE_15_19);
+        count_if(beside == TOO_MANY_BLOCKS || beside == NOT_ONE_HELD,
+                 &by_number);
         break;
     }
     case OVER_TABLE: {
@@ -997,6 +1006,8 @@ static void look_at_refused(const uint8_t *deck, size_t length,
         count_20(met, &at_line, answer->line);
         count_block_fault(beside == TOO_MANY_BLOCKS, BESIDE_14_20);
         count_block_fault(beside == NOT_ONE_HELD, BESIDE_15_20);
+        count_if(beside == TOO_MANY_BLOCKS || beside == NOT_ONE_HELD,
+                 &by_number);
         break;
     }
     default:
@@ -1098,6 +1109,8 @@ static unsigned print_all(void)
     for (unsigned k = 0; k < WRONG_RULES; k++)
         missing += print_count(&wrong_rules[k].decks);
     missing += print_count(&area_lost);
+    missing += print_count(&before_10);
+    missing += print_count(&by_number);
     puts("   decks  refused at a line of a pond, or where a block with one ends");
     missing += print_counts(line_faults, LINE_FAULTS);
     for (unsigned k = 0; k < PARTS; k++)

@@ -2340,8 +2340,8 @@ expected='9,3,2,'
 # row; back, several rows, higher, wide; no inflow, NQ 1; below a pond, runoff,
 # inflow, confluence, routing; ratios, twenty, area; lines and forms
 expected+='2,1,1,0,0,0,1,0,0,1,0,2,0,0,1,0,0,0,0,2,0,0,0,0,1,0,0,0,0,0,2,0,0,'
-# (a) to (t)
-expected+='1,1,1,1,2,1,3,3,1,1,1,2,1,0,0,0,0,2,1,1,'
+# (a) to (v)
+expected+='1,1,1,1,2,1,3,3,1,1,1,2,1,0,0,0,0,2,1,1,0,1,'
 # a second RS, 6 on RS, 7 on RS, SV and SQ; parts of the set, all with another
 expected+='1,0,0,0,0,0,0,0,0,1,0,0,0,0,0,0,0,0,0,0,1,0,0,0,0,0,0,0,0,0,0,0,0,'
 # 10, 13, 19, 20
