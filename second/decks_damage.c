@@ -737,7 +737,7 @@ static int damage10(Deck *d, const Net *n, const Style *s)
         if (pct(40)) {
             block_in(d, at, T_HC, s, count[rnd(4)], "", "");
         } else if (pct(50)) {
-            broken_pond_first(d, at, n, s);
+            first_pond(d, at, n, s);
         } else {
             rm_pick(n->m, pct(50) ? RM_INSIDE : RM_UNDER, &rn, &rk, &rx);
             number_write(a, rn, 0, 6, 0);

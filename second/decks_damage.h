@@ -29,7 +29,7 @@ int storm_block(Deck *d, int at, const Net *n, const Style *s, const char *p1, c
 int gate(Deck *d, int at, const Net *n, const Style *s, int ratio);
 
 /* ---- ponds ---- */
-int broken_pond_first(Deck *d, int at, const Net *n, const Style *s);
+int first_pond(Deck *d, int at, const Net *n, const Style *s);
 int damage6_pond(Deck *d, const Style *s);
 int damage7_pond(Deck *d, const Style *s);
 int damage9_pond(Deck *d, const Net *n, const Style *s);

@@ -90,7 +90,7 @@ static void broken_table(const Net *n, Block *b)
 }
 
 /* A pond with nothing held, its table broken or not. */
-int broken_pond_first(Deck *d, int at, const Net *n, const Style *s)
+int first_pond(Deck *d, int at, const Net *n, const Style *s)
 {
     Block b;
     if (pct(50))
