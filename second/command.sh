@@ -161,10 +161,11 @@ quote 5 4 'JR out of place, or a second JR' 'JR X' '*FREE\nIT 60,,,4\nJR PREC,1\
 quote 5 1 'JR out of place, or a second JR' 'JR' 'JR\n'
 quote 6 3 'another word than PREC on JR, a malformed ratio, or more than nine' 'JR FLOW,1' '*FREE\nIT 60,,,4\nJR FLOW,1\n'
 quote 7 3 'a ratio outside 0.01 to 9.99, or no ratio' 'JR PREC' '*FREE\nIT 60,,,4\nJR PREC\n'
+quote 7 6 'RS other than 1, STOR, 0' 'RS 1,FLOW' '*FREE\nIT 60,,,4\nKK A\nQI 1\nKK P\nRS 1,FLOW\n'
 quote 9 6 'wrong set of records in the block of line 4' 'KK B' '*FREE\nIT 60,,,4\nKM\nKK A\nBA 1\nKK B\nZZ\n'
 quote 18 9 'a storm total above 0 with a pattern of zeros in the block of line 3' 'KK B' '*FREE\nIT 60,,,4\nKK A\nBA 1\nPB 1\nPI\nLU\nUI 1\nKK B\n'
-quote 19 9 "the pond's table (SV, SQ) breaks a rule in the block of line 5" 'KK B' '*FREE\nIT 60,,,4\nKK A\nQI 1\nKK P\nRS 1,STOR\nSV 0\nSQ 0\nKK B\n'
-quote 20 9 "the pond rises above its table's last row in the block of line 5" 'ZZ' '*FREE\nIT 60,,,4\nKK A\nQI 1\nKK P\nRS 1,STOR\nSV 0,.01\nSQ 0,0\nZZ\n'
+quote 19 9 'a table of storage and outflow that breaks a rule in the block of line 5' 'KK B' '*FREE\nIT 60,,,4\nKK A\nQI 1\nKK P\nRS 1,STOR\nSV 0\nSQ 0\nKK B\n'
+quote 20 9 'water above the last row of the table in the block of line 5' 'ZZ' '*FREE\nIT 60,,,4\nKK A\nQI 1\nKK P\nRS 1,STOR\nSV 0,.01\nSQ 0,0\nZZ\n'
 quote 12 9 'K, X and N do not suit the interval in the block of line 6' 'ZZ end' \
     '*FREE\nIT 60,,,4\nKK A\nQI 1\n\nKK B\nKM KK\nRM 1,0.5,0.2\nZZ end'
 head -c 60001 /dev/zero >long.hc1
@@ -187,7 +188,7 @@ chmod +x "$scratch/answers"
 input 'ID\n'
 for n in $(numbers 1 "$refusals"); do
     ANSWER="$n 1" "$root/hec1" --program "$scratch/answers" <"$scratch/in" >/dev/null 2>"$scratch/err"
-    holds "words of refusal $n" grep -q "^-:1: [a-zA-Z0-9 ,'()]* (refusal $n): ID\$" "$scratch/err"
+    holds "words of refusal $n" grep -q "^-:1: [a-zA-Z0-9 ,]* (refusal $n): ID\$" "$scratch/err"
     holds "words of refusal $n are known" sh -c '! grep -q "does not know" "$1"' sh "$scratch/err"
 done
 printf '#!/bin/sh\nexit 3\n' >"$scratch/broken"
