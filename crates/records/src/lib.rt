@@ -41,20 +41,7 @@ pub const IT: usize = RECORDS;
 pub const JR: usize = RECORDS + 1;
 
 // Where the regions begin, and behind the last the end: a head word, then room for the values.
-const STARTS: [u16; RECORDS + 1] = [
-    0,
-    2,
-    303,
-    307,
-    458,
-    759,
-    761,
-    765,
-    767,
-    771,
-    792,
-    813,
-];
+const STARTS: [u16; RECORDS + 1] = [0, 2, 303, 307, 458, 759, 761, 765, 767, 771, 792, 813];
 
 // All of them.
 pub const WORDS: usize = 813;

@@ -135,13 +135,14 @@ fn is_patternless(time: Time, cards: &[u64]) -> bool
 fn refusal_by(kindless: bool, patternless: bool, taken: usize, held: usize, broken: u64) -> u64
     ensures { λ r. ⌜ r ≡ refusalBy kindless patternless taken held broken ⌝ }
 {
+    let few = held < taken;
     if kindless {
         return 9;
     }
     if patternless {
         return 18;
     }
-    if held < taken {
+    if few {
         return 10;
     }
     if MOST_HELD <= held - taken {
