@@ -7,11 +7,11 @@ use Prim.Native.Nat.{ℕ, zero, suc, _+_, _-_, _*_, _<_}
 use mathlib.Core.Path.{_≡_}
 use mathlib.Core.Bool.{false}
 use mathlib.Core.List.{List}
-use native.Mathlib.Nat.{add-zero, add-suc, mul-add, mul-zero}
+use native.Mathlib.Nat.{add-zero, add-suc, mul-add}
 use native.Mathlib.Omega.{arith}
-use lib.ListN.{length, getD}
+use lib.ListN.{length}
 use Rattle.meaning.specs.Water.{sumTo}
-use Rattle.meaning.specs.Pool.{PoolRow, rulesBreak, Pool, wAfter, poolAfter, poolsOf}
+use Rattle.meaning.specs.Pool.{PoolRow, rulesBreak, Pool, wAfter, poolsOf}
 use Rattle.pond.specs.Pools.{poolIn, next-pool, pools-held}
 
 abbrev pub stored : (m : ℕ) → Pool → ℕ

@@ -5,7 +5,7 @@
 --     between-under               where c·Q is at most W in both rows, c times it is at most W between them
 use Prim.Native.Nat.{ℕ, _+_, _-_, _*_, _/_, _≤_, _<_}
 use mathlib.Core.Path.{_≡_}
-use native.Mathlib.Nat.{add-zero, mul-zero, zero-div, sub-self, le-refl, add-sub-of-le, mul-div-cancel, mul-div-le, mul-le-mul-left, le-of-mul-le-mul-left}
+use native.Mathlib.Nat.{add-zero, mul-zero, zero-div, sub-self, add-sub-of-le, mul-div-cancel, mul-div-le, mul-le-mul-left, le-of-mul-le-mul-left}
 use native.Mathlib.Omega.{arith}
 use Rattle.sequences.specs.Cuts.{div-rises}
 use Rattle.meaning.specs.Pool.{PoolRow, wOf, between}

@@ -6,7 +6,7 @@
 --     bracket         on or between the W of any row and the next one it is interpolated there, wherever the search began
 --     at-row          at a row's W it is that row's Q, from whichever side W came: between-low and between-high say it of the spans above and below
 use Prim.Native.Nat.{ℕ, zero, suc, _-_, _*_, _≤_, _<_, zero-le}
-use mathlib.Core.Path.{_≡_, refl, sym, ap, _∙_}
+use mathlib.Core.Path.{_≡_, refl, sym, _∙_}
 use mathlib.Core.Bool.{false}
 use mathlib.Core.List.{List, [], _∷_}
 use mathlib.Core.Logic.{⊎-elim}
@@ -16,7 +16,7 @@ use lib.ListN.{length}
 use borrow.Author.Tests.{le-leb, lt-leb}
 use Rattle.sequences.specs.Choices.{taken, passed, below-or-not}
 use Rattle.meaning.specs.Pool.{PoolRow, wOf, rulesBreak, between, outflowFrom, outflowAt, lastW}
-use Rattle.pond.specs.Tables.{Follows, Kept, kept-next, kept-rest, rules-kept, rowIn}
+use Rattle.pond.specs.Tables.{Kept, kept-next, kept-rest, rules-kept, rowIn}
 use Rattle.pond.specs.Interpolation.{between-low, between-high, between-least, between-most, between-rises, between-under}
 
 module _ (m : ℕ) where

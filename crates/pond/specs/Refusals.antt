@@ -20,10 +20,6 @@ use Rattle.meaning.specs.Words.{_=?_, _≤?_, _<?_}
 use Rattle.meaning.specs.Pool.{poolRow, rowsOf, rowBreaks, rowsBreak, tableBreaks}
 use Rattle.pond.specs.Tables.{count-rows}
 
--- the last of two tests holds
-holds-last : (s t : Bool) → t ≡ true → (s || t) ≡ true
-holds-last s t e = rw e (or-true s)
-
 -- the counts' two tests
 abbrev counts : (svs sqs : List ℕ) → Bool
 counts svs sqs = (length (rowsOf svs sqs) <? 2) || not (length svs =? length sqs)
@@ -61,12 +57,14 @@ asked-behind m (sv ∷ svs) (sq ∷ sqs) e two v q =
     let more : 2 ≤ suc (length (rowsOf svs sqs)) = omega (arith, count-rows (sv ∷ svs) (sq ∷ sqs) e) in
     rw (v, q, le-ltb (suc (length (rowsOf svs sqs))) 2 more, eq-eqb (suc (length svs)) (suc (length sqs)) e)
 
-pub rows-turn : (m sv sq : ℕ) (svs sqs : List ℕ) (j : ℕ) → length svs ≡ length sqs → j < length svs
-    → rowsBreak m (poolRow sv sq) (rowsOf (drop j svs) (drop j sqs))
-    ≡ (rowBreaks m (poolRow sv sq) (poolRow (getD svs j 0) (getD sqs j 0)) || rowsBreak m (poolRow (getD svs j 0) (getD sqs j 0)) (rowsOf (drop (j + 1) svs) (drop (j + 1) sqs)))
-rows-turn m sv sq svs sqs j e h =
+-- `broken`: whether the row at j breaks a rule
+pub rows-turn : (m sv sq : ℕ) (svs sqs : List ℕ) (j : ℕ) (broken : Bool) → length svs ≡ length sqs → j < length svs
+    → broken ≡ rowBreaks m (poolRow sv sq) (poolRow (getD svs j 0) (getD sqs j 0))
+    → (broken || rowsBreak m (poolRow (getD svs j 0) (getD sqs j 0)) (rowsOf (drop (j + 1) svs) (drop (j + 1) sqs)))
+    ≡ rowsBreak m (poolRow sv sq) (rowsOf (drop j svs) (drop j sqs))
+rows-turn m sv sq svs sqs j broken e h asked =
     let k : j < length sqs = omega arith in
-    rw (drop-cons svs j 0 h, drop-cons sqs j 0 k, add-one j)
+    rw (asked, drop-cons svs j 0 h, drop-cons sqs j 0 k, add-one j)
 
 pub rows-done : (m sv sq : ℕ) (svs sqs : List ℕ) (j : ℕ) → length svs ≤ j → rowsBreak m (poolRow sv sq) (rowsOf (drop j svs) (drop j sqs)) ≡ false
 rows-done m sv sq svs sqs j h = rw (drop-of-length-le svs h)

@@ -4,7 +4,7 @@ use mathlib.Core.Path.{_≡_, refl}
 use mathlib.Core.Bool.{true, false}
 use mathlib.Core.List.{List, [], _∷_, map}
 use Rattle.meaning.specs.Words.{if_then_else_}
-use Rattle.meaning.specs.Pool.{PoolRow, rowsOf, wOf, rowBreaks, tableBreaks, between, Pool, wAfter, poolsOf, pondedOf, overtopped}
+use Rattle.meaning.specs.Pool.{rowsOf, wOf, rowBreaks, tableBreaks, between, Pool, wAfter, poolsOf, pondedOf, overtopped}
 
 abbrev svs : List ℕ
 svs = 0 ∷ 100 ∷ 300 ∷ []

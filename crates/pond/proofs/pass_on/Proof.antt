@@ -1,6 +1,6 @@
 -- `pond::pass_on` meets its contract. Of the ordinates the first i are outflows and the rest are still inflows, of which the work left makes the outflows; and whether any
 -- pool so far or still to come is above the last row is what is asked.
-use Prim.Native.Nat.{ℕ, _≤_, _<_, _+_, _-_, _*_}
+use Prim.Native.Nat.{ℕ, _≤_, _-_, _*_}
 use mathlib.Core.Path.{_≡_, refl, sym, ap, _∙_}
 use mathlib.Core.Bool.{Bool, _||_, or-false}
 use mathlib.Core.List.{List, [], _++_}
@@ -13,7 +13,7 @@ use Rattle.meaning.specs.Words.{_<?_}
 use Rattle.meaning.specs.Water.{flowLimit}
 use Rattle.meaning.specs.Pool.{rowsOf, outflowAt, lastW}
 use Rattle.pond.specs.declared.Span.{Span}
-use Rattle.pond.specs.Tables.{PondTable, two-rows, paired, ruled, count-rows}
+use Rattle.pond.specs.Tables.{two-rows, paired, ruled, count-rows}
 use Rattle.pond.specs.Outflows.{outflow-under, outflow-last}
 use Rattle.pond.specs.Limits.{Interval, row-flow, w-after-limit}
 use Rattle.pond.specs.Spans.{SpanAt, found-graded, found-outflow, found-over}
@@ -40,6 +40,13 @@ Inv-loop q₀ m svs sqs first w₀ old-in₀ old-out₀ over₀ s₀ i₀ q w ol
 abbrev μ-loop : tie.MeasureT-loop
 μ-loop q₀ m svs sqs first w₀ old-in₀ old-out₀ over₀ s₀ i₀ q w old-in old-out over s i = length q₀ - i
 
+-- The entry, seen from where the loop begins, and the loop's test from behind the four calls.
+abbrev entry : tie.After-span-at Inv-loop μ-loop → tie.Start Inv-loop μ-loop
+entry c = c .before .before .before .before
+
+abbrev at-loop : tie.After-outflow-at Inv-loop μ-loop → tie.At-loop Inv-loop μ-loop
+at-loop c = c .before .before .before .before .before .before
+
 span-at-requires : tie.Need-span-at-requires Inv-loop μ-loop
 span-at-requires c κs =
     let s = c .before .before .before in
@@ -51,7 +58,7 @@ span-at-requires c κs =
 
 loop-holds : tie.Need-loop-holds Inv-loop μ-loop
 loop-holds c =
-    let s = c .before .before .before .before in
+    let s = entry c in
     record {
       some = omega arith;
       up = omega arith;
@@ -67,25 +74,23 @@ loop-holds c =
 
 w-after-requires : tie.Need-w-after-requires Inv-loop μ-loop
 w-after-requires c κs =
-    let s = c .before .before .before .before .before .before .before in
-    let l = c .before .before .loop in
-    let v = l .inv in
-    (omega (arith, v .up, v .low), record { minutes = s .pre .0 .minutes; oldUp = omega (arith, v .inUp); newUp = v .flows (l .i); held = omega (arith, v .held) })
+    let l = c .before .before in
+    let t = entry (l .before) .pre .0 in
+    let v = l .loop .inv in
+    (omega (arith, v .up, v .low), record { minutes = t .minutes; oldUp = omega (arith, v .inUp); newUp = v .flows (l .loop .i); held = omega (arith, v .held) })
 
 seek-requires : tie.Need-seek-requires Inv-loop μ-loop
-seek-requires c κs = (c .before .before .before .before .before .before .before .before .pre .0, c .before .before .before .loop .inv .span)
+seek-requires c κs = let l = c .before .before .before in (entry (l .before) .pre .0, l .loop .inv .span)
 
 outflow-at-requires : tie.Need-outflow-at-requires Inv-loop μ-loop
 outflow-at-requires c κs =
-    let s = c .before .before .before .before .before .before .before .before .before .before in
+    let l = c .before .before .before .before .before in
+    let s = entry (l .before) in
     (s .pre .0 .minutes, found-graded (s .args .m) (s .args .svs .now) (s .args .sqs .now) (s .pre .0) _ _ (c .before .seek .ensures))
-
-abbrev at-loop : tie.After-outflow-at Inv-loop μ-loop → tie.At-loop Inv-loop μ-loop
-at-loop c = c .before .before .before .before .before .before
 
 loop-again : tie.Need-loop-again Inv-loop μ-loop
 loop-again c =
-    let s = at-loop c .before .before .before .before .before in
+    let s = entry (at-loop c .before) in
     let m = s .args .m in
     let svs = s .args .svs .now in
     let sqs = s .args .sqs .now in

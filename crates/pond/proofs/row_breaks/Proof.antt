@@ -1,5 +1,5 @@
 -- `pond::row_breaks` meets its contract: its tests are 19's rules, asked of hundredths (`row-hundredths`).
-use Prim.Native.Nat.{_*_, _≤_, _<_}
+use Prim.Native.Nat.{_≤_, _<_}
 use native.Mathlib.Nat.{mul-le-mul}
 use native.Mathlib.Omega.{arith}
 use borrow.Author.Needs.{needs}

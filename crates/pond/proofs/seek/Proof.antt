@@ -1,5 +1,4 @@
 -- `pond::seek` meets its contract: below the span the search goes down and above it up; else W is on it.
-use native.Mathlib.Omega.{arith}
 use borrow.Author.Needs.{needs}
 use Rattle.pond.proofs.seek.Statement.{statement}
 use Rattle.pond.proofs.seek.Tie as tie

@@ -1,7 +1,6 @@
 -- `pond::span_of` meets its contract: W rises to that of the next row, which has its limit.
 use Prim.Native.Nat.{_+_, _-_, _*_, _≤_}
 use mathlib.Core.Path.{_≡_, refl}
-use native.Mathlib.Nat.{mul-le-mul}
 use native.Mathlib.Omega.{arith}
 use borrow.Author.Needs.{needs}
 use Rattle.meaning.specs.Pool.{poolRow, wOf}
