@@ -6,6 +6,8 @@ pub mod Limits
 pub mod Refusals
 pub mod Hundredths
 pub mod Spans
+pub mod Levels
+pub mod Searches
 pub mod Turns
 pub mod Pools
 pub mod Balance

@@ -23,6 +23,7 @@ pub record PondTable (m : ℕ) (svs sqs : List ℕ) : Type 0 where
   pub minutes : m ≤ 1_440
   pub volumesUp : AllUpTo 9_999_999 svs
   pub outflowsUp : AllUpTo 10_000_000 sqs
+  pub few : length svs ≤ 20
   pub whole : tableBreaks m svs sqs ≡ false
 
 module _ (m : ℕ) (svs sqs : List ℕ) (t : PondTable m svs sqs) where

@@ -2,8 +2,8 @@
 ghost use mathlib.Core.Path.{_≡_};
 ghost use mathlib.Core.Bool.{_||_};
 ghost use mathlib.Core.List.{_++_};
-ghost use Prim.Native.Nat.{_+_, _*_, _/_, _≤_, _<_};
-ghost use lib.ListN.{length, take, drop};
+ghost use Prim.Native.Nat.{ℕ, _+_, _*_, _/_, _≤_, _<_};
+ghost use lib.ListN.{length, getD, take, drop, replicate};
 ghost use Rattle.sequences.specs.Bounds.{AllUpTo};
 ghost use Rattle.meaning.specs.Words.{_<?_};
 ghost use Rattle.meaning.specs.Water.{flowLimit};
@@ -11,7 +11,9 @@ ghost use Rattle.meaning.specs.Records.{mostOrdinates};
 ghost use Rattle.meaning.specs.Pool.{poolRow, rowsOf, wOf, rowBreaks, rowsBreak, tableBreaks, wAfter, pondedOf, overtopped};
 ghost use Rattle.pond.specs.Tables.{PondTable, rowAt};
 ghost use Rattle.pond.specs.Limits.{Interval};
-ghost use Rattle.pond.specs.Spans.{SpanOf, SpanAt, Reached, Found, outflowIn, Graded};
+ghost use Rattle.pond.specs.Spans.{Found, outflowIn, Graded};
+ghost use Rattle.pond.specs.Levels.{riseOf, riseAt, noW, WsOf, RisesOf, spanIn, Listed};
+ghost use Rattle.pond.specs.Searches.{Topped, Climbed, Sunk, Sought, Searchable};
 ghost use Rattle.pond.specs.Turns.{poolOf, outflowsAfter, aboveAfter};
 
 // THE TABLE. Whether a row breaks a rule behind the one before it. Rows are in hundredths, as SV and SQ list them.
@@ -100,78 +102,118 @@ fn w_at(m: u64, svs: &[u64], sqs: &[u64], row: usize) -> u64
     w_of(m, svs[row], sqs[row])
 }
 
-// The span from a row at that place to the next one.
-fn span_of(m: u64, row: usize, sv: u64, sq: u64, next_sv: u64, next_sq: u64) -> Span
+// By how much W rises from a row to the next one, in hundredths.
+fn rise_of(m: u64, sv: u64, sq: u64, next_sv: u64, next_sq: u64) -> u64
     requires { ⌜ (m ≤ 1_440) × (sv ≤ «next_sv») × («next_sv» ≤ 9_999_999) × (sq ≤ «next_sq») × («next_sq» ≤ 10_000_000) ⌝ }
-    ensures { λ r. ⌜ (r .row ≡ row) × SpanOf m (poolRow sv sq) (poolRow «next_sv» «next_sq») r ⌝ }
+    ensures { λ r. ⌜ r ≡ riseOf m sv sq «next_sv» «next_sq» ⌝ }
 {
-    let more = next_sq - sq;
-    let rise = 1_452 * (next_sv - sv) + m * more;
-    let low = w_of(m, sv, sq);
+    1_452 * (next_sv - sv) + m * (next_sq - sq)
+}
+
+fn rise_at(m: u64, svs: &[u64], sqs: &[u64], row: usize) -> u64
+    requires { ⌜ PondTable m (now svs) (now sqs) ⌝ }
+    requires { ⌜ row + 1 < length (now svs) ⌝ }
+    ensures { λ r. ⌜ r ≡ riseAt m (now (svs .entry)) (now (sqs .entry)) row ⌝ }
+{
+    let next = row + 1;
+    rise_of(m, svs[row], sqs[row], svs[next], sqs[next])
+}
+
+// THE LISTS, made once for all ordinates. Blank ones are functions of their own: a proof that sees how the words came to be counts them one by one.
+fn blank_ws() -> [u64; 21]
+    ensures { λ r. ⌜ r ≡ replicate 21 noW ⌝ }
+{
+    [18_446_744_073_709_551_615; 21]
+}
+
+fn blank_rises() -> [u64; 20]
+    ensures { λ r. ⌜ length r ≡ 20 ⌝ }
+{
+    [0; 20]
+}
+
+// W of every row, and behind the last row a number that no W is above: a search upwards ends there, with one test at a row.
+fn list_w(m: u64, svs: &[u64], sqs: &[u64]) -> [u64; 21]
+    requires { ⌜ PondTable m (now svs) (now sqs) ⌝ }
+    ensures { λ r. ⌜ WsOf m (now (svs .entry)) (now (sqs .entry)) r ⌝ }
+{
+    let mut ws = blank_ws();
+    let mut i = 0;
+    while i < svs.len() {
+        ws[i] = w_at(m, svs, sqs, i);
+        i += 1;
+    }
+    ws
+}
+
+// By how much W rises from every row but the last to the next one.
+fn list_rises(m: u64, svs: &[u64], sqs: &[u64]) -> [u64; 20]
+    requires { ⌜ PondTable m (now svs) (now sqs) ⌝ }
+    ensures { λ r. ⌜ RisesOf m (now (svs .entry)) (now (sqs .entry)) r ⌝ }
+{
+    let mut rises = blank_rises();
+    let mut i = 0;
+    while i + 1 < svs.len() {
+        rises[i] = rise_at(m, svs, sqs, i);
+        i += 1;
+    }
+    rises
+}
+
+// THE SEARCH. The span from a row to the next one, from the lists.
+fn span_at(sqs: &[u64], ws: &[u64], rises: &[u64], row: usize) -> Span
+    requires { ⌜ Listed (now sqs) (now ws) (now rises) row ⌝ }
+    ensures { λ r. ⌜ r ≡ spanIn (now (sqs .entry)) (now (ws .entry)) (now (rises .entry)) row ⌝ }
+{
+    let next = row + 1;
+    let sq = sqs[row];
     Span {
         row,
-        low,
-        high: low + 600_000 * rise,
+        low: ws[row],
+        high: ws[next],
         out: 600_000 * sq,
-        more,
-        rise,
+        more: sqs[next] - sq,
+        rise: rises[row],
     }
 }
 
-fn span_at(m: u64, svs: &[u64], sqs: &[u64], row: usize) -> Span
-    requires { ⌜ PondTable m (now svs) (now sqs) ⌝ }
-    requires { ⌜ row + 1 < length (now svs) ⌝ }
-    ensures { λ r. ⌜ (r .row ≡ row) × SpanAt m (now (svs .entry)) (now (sqs .entry)) r ⌝ }
-{
-    let next = row + 1;
-    span_of(m, row, svs[row], sqs[row], svs[next], sqs[next])
-}
-
-// From a row that W is not below, up to the one whose next row W is not above, or to the last but one.
-fn climb(m: u64, svs: &[u64], sqs: &[u64], row: usize, w: u64) -> usize
-    requires { ⌜ PondTable m (now svs) (now sqs) ⌝ }
-    requires { ⌜ (row + 1 < length (now svs)) × (wOf m (rowAt (now svs) (now sqs) row) ≤ w) ⌝ }
-    ensures { λ r. ⌜ Reached m (now (svs .entry)) (now (sqs .entry)) r w ⌝ }
+// From a row up to the first whose next W is not above.
+fn climb(ws: &[u64], row: usize, w: u64) -> usize
+    requires { ⌜ Topped (now ws) row ⌝ }
+    ensures { λ r. ⌜ Climbed (now (ws .entry)) row w r ⌝ }
 {
     let mut k = row;
-    while k + 2 < svs.len() {
-        if w <= w_at(m, svs, sqs, k + 1) {
-            return k;
-        }
+    while ws[k + 1] < w {
         k += 1;
     }
     k
 }
 
-// From a row whose next row W is not above, down to the one that W is not below.
-fn sink(m: u64, svs: &[u64], sqs: &[u64], row: usize, w: u64) -> usize
-    requires { ⌜ PondTable m (now svs) (now sqs) ⌝ }
-    requires { ⌜ (row + 1 < length (now svs)) × (w ≤ wOf m (rowAt (now svs) (now sqs) (row + 1))) ⌝ }
-    ensures { λ r. ⌜ Reached m (now (svs .entry)) (now (sqs .entry)) r w ⌝ }
+// From a row down to the first that W is not below.
+fn sink(ws: &[u64], row: usize, w: u64) -> usize
+    requires { ⌜ (row < length (now ws)) × (getD (now ws) 0 0 ≡ 0) ⌝ }
+    ensures { λ r. ⌜ Sunk (now (ws .entry)) row w r ⌝ }
 {
     let mut k = row;
-    while 0 < k {
-        if w_at(m, svs, sqs, k) <= w {
-            return k;
-        }
+    while w < ws[k] {
         k -= 1;
     }
     k
 }
 
 // The span on which W lies, from one that it may have left; the last one if W is above all.
-fn seek(m: u64, svs: &[u64], sqs: &[u64], s: Span, w: u64) -> Span
-    requires { ⌜ PondTable m (now svs) (now sqs) ⌝ }
-    requires { ⌜ SpanAt m (now svs) (now sqs) s ⌝ }
-    ensures { λ r. ⌜ Found m (now (svs .entry)) (now (sqs .entry)) r w ⌝ }
+fn seek(svs: &[u64], sqs: &[u64], ws: &[u64], rises: &[u64], s: Span, w: u64) -> Span
+    requires { ⌜ Searchable (now svs) (now sqs) (now ws) (now rises) s ⌝ }
+    ensures { λ r. ⌜ ((m : ℕ) → Sought m (now (svs .entry)) (now (sqs .entry)) (now (ws .entry)) (now (rises .entry)) s → Found m (now (svs .entry)) (now (sqs .entry)) r w) ⌝ }
 {
     if w < s.low {
-        let row = sink(m, svs, sqs, s.row, w);
-        return span_at(m, svs, sqs, row);
+        let row = sink(ws, s.row, w);
+        return span_at(sqs, ws, rises, row);
     }
     if s.high < w {
-        let row = climb(m, svs, sqs, s.row, w);
-        return span_at(m, svs, sqs, row);
+        let row = climb(ws, s.row, w);
+        let last = slices::smaller(row, svs.len() - 2);
+        return span_at(sqs, ws, rises, last);
     }
     s
 }
@@ -225,8 +267,18 @@ fn w_after(m: u64, w: u64, old_in: u64, new_in: u64, old_out: u64) -> u64
 }
 
 // The ordinates behind the first, whose inflow was `first`.
-fn pass_on(q: &mut [u64], m: u64, svs: &[u64], sqs: &[u64], first: u64) -> bool
+fn pass_on(
+    q: &mut [u64],
+    m: u64,
+    svs: &[u64],
+    sqs: &[u64],
+    ws: &[u64],
+    rises: &[u64],
+    first: u64,
+) -> bool
     requires { ⌜ PondTable m (now svs) (now sqs) ⌝ }
+    requires { ⌜ WsOf m (now svs) (now sqs) (now ws) ⌝ }
+    requires { ⌜ RisesOf m (now svs) (now sqs) (now rises) ⌝ }
     requires { ⌜ (0 < length (now q)) × (length (now q) ≤ mostOrdinates) × (first ≤ flowLimit) ⌝ }
     requires { ⌜ AllUpTo flowLimit (now q) ⌝ }
     ensures { λ _. ⌜ now (q .exit) ≡ take 1 (now (q .entry)) ++ outflowsAfter m (rowsOf (now (svs .entry)) (now (sqs .entry))) (poolOf 0 first 0) (drop 1 (now (q .entry))) ⌝ }
@@ -236,12 +288,12 @@ fn pass_on(q: &mut [u64], m: u64, svs: &[u64], sqs: &[u64], first: u64) -> bool
     let mut old_in = first;
     let mut old_out = 0;
     let mut over = false;
-    let mut s = span_at(m, svs, sqs, 0);
+    let mut s = span_at(sqs, ws, rises, 0);
     let mut i = 1;
     while i < q.len() {
         let new_in = q[i];
         w = w_after(m, w, old_in, new_in, old_out);
-        s = seek(m, svs, sqs, s, w);
+        s = seek(svs, sqs, ws, rises, s, w);
         over = is_over(over, s.high, w);
         old_in = new_in;
         old_out = outflow_at(m, s, w);
@@ -264,5 +316,7 @@ pub fn pass_pool(q: &mut [u64], m: u64, svs: &[u64], sqs: &[u64]) -> bool
     }
     let first = q[0];
     q[0] = 0;
-    pass_on(q, m, svs, sqs, first)
+    let ws = list_w(m, svs, sqs);
+    let rises = list_rises(m, svs, sqs);
+    pass_on(q, m, svs, sqs, &ws, &rises, first)
 }

@@ -1,36 +1,44 @@
--- `pond::climb` meets its contract. W is never below the row reached; where the loop ends the next row is the last.
-use Prim.Native.Nat.{_+_, _-_, _≤_, _<_}
+-- `pond::climb` meets its contract: W is above all rows that were passed, and so the loop ends ahead of the place that no W is above.
+use Prim.Native.Nat.{_-_, _≤_, _<_}
+use mathlib.Core.Path.{_≡_, refl}
 use native.Mathlib.Omega.{arith}
 use lib.ListN.{length}
-use Rattle.meaning.specs.Pool.{wOf}
-use Rattle.pond.specs.Tables.{rowAt}
+use Rattle.pond.specs.Levels.{noW}
+use Rattle.pond.specs.Searches.{Passed, passed-none, passed-more, passed-under}
 use Rattle.pond.proofs.climb.Statement.{statement}
 use Rattle.pond.proofs.climb.Tie as tie
 
 abbrev Inv-loop : tie.InvT-loop
-Inv-loop m svs sqs row w k₀ k = (k + 1 < length svs) × (wOf m (rowAt svs sqs k) ≤ w)
+Inv-loop ws row w k₀ k = Passed ws row w k
 
 abbrev μ-loop : tie.MeasureT-loop
-μ-loop m svs sqs row w k₀ k = length svs - k
+μ-loop ws row w k₀ k = length ws - k
 
-w-at-requires : tie.Need-w-at-requires Inv-loop μ-loop
-w-at-requires c κs = (c .before .before .before .before .pre .0, omega arith)
+loop-holds : tie.Need-loop-holds Inv-loop μ-loop
+loop-holds c = passed-none (c .args .ws .now) (c .args .row) (c .args .w) (c .args .row) refl
 
-returns : tie.Need-returns Inv-loop μ-loop
-returns c =
-    let l = c .before .before .before .loop in
-    record { inside = l .inv .0; above = l .inv .1; last = omega (arith, c .before .w-at .ensures) }
+-- The row looked at, from the loop's test: it is not behind the top.
+under : (c : tie.At-loop Inv-loop μ-loop) → c .loop .k < c .before .pre .top
+under c =
+    let s = c .before in
+    let fits : s .args .w ≤ noW = omega arith in
+    passed-under (s .args .ws .now) (s .args .row) (s .args .w) (c .loop .k) (s .pre) fits (c .loop .inv)
+
+inside : (c : tie.At-loop Inv-loop μ-loop) → c .before .pre .top < length (c .before .args .ws .now)
+inside c = c .before .pre .inside
 
 loop-again : tie.Need-loop-again Inv-loop μ-loop
-loop-again c = (omega arith, omega (arith, c .before .w-at .ensures))
+loop-again c =
+    let l = c .before .before in
+    let x = l .before .args in
+    passed-more (x .ws .now) (x .row) (x .w) (l .loop .k) (l .loop .inv) (c .if1 .taken)
 
-returns-2 : tie.Need-returns-2 Inv-loop μ-loop
-returns-2 c =
-    let l = c .before .loop in
-    record { inside = l .inv .0; above = l .inv .1; last = omega arith }
+returns : tie.Need-returns Inv-loop μ-loop
+returns c = record { passed = c .before .before .loop .inv; next = c .if1 .left }
 
 pub climb-spec : {M : Type 1} → statement M
 climb-spec =
     tie.close
     (tie.spec
-    Inv-loop μ-loop (λ c. c .before .before .pre .1) (λ c. omega arith) (λ c. omega arith) w-at-requires returns (λ c. omega arith) (λ c. omega arith) loop-again returns-2)
+    Inv-loop μ-loop loop-holds (λ c. omega (arith, under c, inside c)) (λ c. omega (arith, under c, inside c)) (λ c. omega (arith, under (c .before), inside (c .before)))
+    (λ c. omega (arith, under (c .before .before), inside (c .before .before))) (λ c. omega (arith, under (c .before .before), inside (c .before .before))) loop-again returns)

@@ -1,6 +1,6 @@
 -- `pond::pass_on` meets its contract. Of the ordinates the first i are outflows and the rest are still inflows, of which the work left makes the outflows; and whether any
 -- pool so far or still to come is above the last row is what is asked.
-use Prim.Native.Nat.{ℕ, _≤_, _-_, _*_}
+use Prim.Native.Nat.{ℕ, _≤_, _<_, _+_, _-_, _*_}
 use mathlib.Core.Path.{_≡_, refl, sym, ap, _∙_}
 use mathlib.Core.Bool.{Bool, _||_, or-false}
 use mathlib.Core.List.{List, [], _++_}
@@ -17,6 +17,8 @@ use Rattle.pond.specs.Tables.{two-rows, paired, ruled, count-rows}
 use Rattle.pond.specs.Outflows.{outflow-under, outflow-last}
 use Rattle.pond.specs.Limits.{Interval, row-flow, w-after-limit}
 use Rattle.pond.specs.Spans.{SpanAt, found-graded, found-outflow, found-over}
+use Rattle.pond.specs.Levels.{row-listed, span-listed}
+use Rattle.pond.specs.Searches.{Sought}
 use Rattle.pond.specs.Turns.{poolOf, outflowsAfter, aboveAfter, outflow-turn, above-turn}
 use Rattle.pond.proofs.pass_on.Statement.{statement}
 use Rattle.pond.proofs.pass_on.Tie as tie
@@ -35,58 +37,75 @@ record Inv (m : ℕ) (svs sqs : List ℕ) (first : ℕ) (q₀ q : List ℕ) (w x
   above : (over || aboveAfter m (rowsOf svs sqs) (poolOf w x o) (drop i q)) ≡ aboveAfter m (rowsOf svs sqs) (poolOf 0 first 0) (drop 1 q₀)
 
 abbrev Inv-loop : tie.InvT-loop
-Inv-loop q₀ m svs sqs first w₀ old-in₀ old-out₀ over₀ s₀ i₀ q w old-in old-out over s i = Inv m svs sqs first q₀ q w old-in old-out over s i
+Inv-loop q₀ m svs sqs ws rises first w₀ old-in₀ old-out₀ over₀ s₀ i₀ q w old-in old-out over s i = Inv m svs sqs first q₀ q w old-in old-out over s i
 
 abbrev μ-loop : tie.MeasureT-loop
-μ-loop q₀ m svs sqs first w₀ old-in₀ old-out₀ over₀ s₀ i₀ q w old-in old-out over s i = length q₀ - i
+μ-loop q₀ m svs sqs ws rises first w₀ old-in₀ old-out₀ over₀ s₀ i₀ q w old-in old-out over s i = length q₀ - i
 
 -- The entry, seen from where the loop begins, and the loop's test from behind the four calls.
 abbrev entry : tie.After-span-at Inv-loop μ-loop → tie.Start Inv-loop μ-loop
-entry c = c .before .before .before .before
+entry c = c .before .before .before .before .before .before
 
 abbrev at-loop : tie.After-outflow-at Inv-loop μ-loop → tie.At-loop Inv-loop μ-loop
 at-loop c = c .before .before .before .before .before .before
 
-span-at-requires : tie.Need-span-at-requires Inv-loop μ-loop
-span-at-requires c κs =
-    let s = c .before .before .before in
+-- There are two rows at least.
+two : (s : tie.Start Inv-loop μ-loop) → 0 + 1 < length (s .args .svs .now)
+two s =
     let m = s .args .m in
     let svs = s .args .svs .now in
     let sqs = s .args .sqs .now in
     let t = s .pre .0 in
-    (t, omega (arith, two-rows m svs sqs t, count-rows svs sqs (paired m svs sqs t)))
+    omega (arith, two-rows m svs sqs t, count-rows svs sqs (paired m svs sqs t))
+
+span-at-requires : tie.Need-span-at-requires Inv-loop μ-loop
+span-at-requires c κs =
+    let s = c .before .before .before .before .before in
+    let x = s .args in
+    row-listed (x .m) (x .svs .now) (x .sqs .now) (s .pre .0) (x .ws .now) (x .rises .now) (s .pre .1 .0) (s .pre .1 .1 .0) 0 (two s)
 
 loop-holds : tie.Need-loop-holds Inv-loop μ-loop
 loop-holds c =
     let s = entry c in
+    let x = s .args in
     record {
       some = omega arith;
       up = omega arith;
       long = refl;
-      flows = s .pre .1 .1;
+      flows = s .pre .1 .1 .1 .1;
       inUp = omega arith;
       low = omega arith;
-      held = omega (arith, mul-zero (2 * s .args .m));
-      span = c .span-at .ensures .1;
+      held = omega (arith, mul-zero (2 * x .m));
+      span = rw (c .span-at .ensures) (span-listed (x .m) (x .svs .now) (x .sqs .now) (s .pre .0) (x .ws .now) (x .rises .now) (s .pre .1 .0) (s .pre .1 .1 .0) 0 (two s));
       done = refl;
       above = refl;
     }
 
+-- What the search goes through.
+sought : (l : tie.At-loop Inv-loop μ-loop) → let x = entry (l .before) .args in Sought (x .m) (x .svs .now) (x .sqs .now) (x .ws .now) (x .rises .now) (l .loop .s)
+sought l =
+    let s = entry (l .before) in
+    record { table = s .pre .0; levels = s .pre .1 .0; steps = s .pre .1 .1 .0; span = l .loop .inv .span }
+
 w-after-requires : tie.Need-w-after-requires Inv-loop μ-loop
 w-after-requires c κs =
     let l = c .before .before in
-    let t = entry (l .before) .pre .0 in
+    let pre = entry (l .before) .pre in
+    let t = pre .0 in
     let v = l .loop .inv in
-    (omega (arith, v .up, v .low), record { minutes = t .minutes; oldUp = omega (arith, v .inUp); newUp = v .flows (l .loop .i); held = omega (arith, v .held) })
+    (omega (arith, v .up, v .low, pre .1 .1 .1 .0), record { minutes = t .minutes; oldUp = omega (arith, v .inUp); newUp = v .flows (l .loop .i); held = omega (arith, v .held) })
 
 seek-requires : tie.Need-seek-requires Inv-loop μ-loop
-seek-requires c κs = let l = c .before .before .before in (entry (l .before) .pre .0, l .loop .inv .span)
+seek-requires c κs =
+    let l = c .before .before .before in
+    let s = entry (l .before) in
+    record { m = s .args .m; sought = sought l }
 
 outflow-at-requires : tie.Need-outflow-at-requires Inv-loop μ-loop
 outflow-at-requires c κs =
     let l = c .before .before .before .before .before in
     let s = entry (l .before) in
-    (s .pre .0 .minutes, found-graded (s .args .m) (s .args .svs .now) (s .args .sqs .now) (s .pre .0) _ _ (c .before .seek .ensures))
+    (s .pre .0 .minutes, found-graded (s .args .m) (s .args .svs .now) (s .args .sqs .now) (s .pre .0) _ _ (c .before .seek .ensures (s .args .m) (sought l)))
 
 loop-again : tie.Need-loop-again Inv-loop μ-loop
 loop-again c =
@@ -100,7 +119,7 @@ loop-again c =
     let v = l .inv in
     let w = c .before .before .before .w-after .result in
     let ew = c .before .before .before .w-after .ensures in
-    let found = c .before .before .seek .ensures in
+    let found = c .before .before .seek .ensures m (sought (at-loop c)) in
     let span = c .before .before .seek .result in
     let o = c .outflow-at .result in
     let eo : o ≡ outflowAt m rows w = c .outflow-at .ensures ∙ found-outflow m svs sqs t span w found in

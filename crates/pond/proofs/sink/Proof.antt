@@ -1,41 +1,39 @@
--- `pond::sink` meets its contract. W is never above the row behind the one reached; the first row, whose W is 0, it is never below.
-use Prim.Native.Nat.{_+_, _-_, _≤_, _<_, zero-le}
-use mathlib.Core.Path.{_≡_}
+-- `pond::sink` meets its contract: W is below all rows that were left, and never below the first, whose W is 0.
+use Prim.Native.Nat.{_<_}
+use mathlib.Core.Path.{refl}
 use native.Mathlib.Omega.{arith}
-use lib.ListN.{length}
-use Rattle.meaning.specs.Pool.{wOf}
-use Rattle.pond.specs.Tables.{rowAt, first-w}
+use Rattle.pond.specs.Searches.{Left, left-none, left-more, left-behind}
 use Rattle.pond.proofs.sink.Statement.{statement}
 use Rattle.pond.proofs.sink.Tie as tie
 
 abbrev Inv-loop : tie.InvT-loop
-Inv-loop m svs sqs row w k₀ k = (k + 1 < length svs) × (w ≤ wOf m (rowAt svs sqs (k + 1)))
+Inv-loop ws row w k₀ k = Left ws row w k
 
 abbrev μ-loop : tie.MeasureT-loop
-μ-loop m svs sqs row w k₀ k = k
+μ-loop ws row w k₀ k = k
 
-w-at-requires : tie.Need-w-at-requires Inv-loop μ-loop
-w-at-requires c κs = (c .before .before .before .before .pre .0, omega arith)
+-- The loop's test, seen from a row that W is below.
+abbrev at-loop : tie.Then1 Inv-loop μ-loop → tie.At-loop Inv-loop μ-loop
+at-loop c = c .before .before
 
-returns : tie.Need-returns Inv-loop μ-loop
-returns c =
-    let l = c .before .before .before .loop in
-    record { inside = l .inv .0; above = omega (arith, c .before .w-at .ensures); last = omega arith }
+loop-holds : tie.Need-loop-holds Inv-loop μ-loop
+loop-holds c = left-none (c .args .ws .now) (c .args .row) (c .args .w) (c .args .row) refl
+
+-- That is not the first.
+behind-first : (c : tie.Then1 Inv-loop μ-loop) → 0 < at-loop c .loop .k
+behind-first c = let s = at-loop c .before in left-behind (s .args .ws .now) (s .args .w) (at-loop c .loop .k) (c .if1 .taken) (s .pre .1)
 
 loop-again : tie.Need-loop-again Inv-loop μ-loop
 loop-again c =
-    let l = c .before .before .before .loop in
-    let same : l .k - 1 + 1 ≡ l .k = omega arith in
-    (omega arith, rw same (omega (arith, c .before .w-at .ensures)))
+    let l = at-loop c in
+    let x = l .before .args in
+    left-more (x .ws .now) (x .row) (x .w) (l .loop .k) (l .loop .inv) (c .if1 .taken) (behind-first c)
 
-returns-2 : tie.Need-returns-2 Inv-loop μ-loop
-returns-2 c =
-    let s = c .before .before .before .before in
-    let l = c .before .loop in
-    let none : l .k ≡ 0 = omega arith in
-    record { inside = l .inv .0; above = rw (none, first-w (s .args .m) (s .args .svs .now) (s .args .sqs .now) (s .pre .0)) zero-le; last = omega arith }
+returns : tie.Need-returns Inv-loop μ-loop
+returns c = record { left = c .before .before .loop .inv; here = c .if1 .left }
 
 pub sink-spec : {M : Type 1} → statement M
 sink-spec =
     tie.close
-    (tie.spec Inv-loop μ-loop (λ c. c .before .before .pre .1) w-at-requires returns (λ c. omega arith) (λ c. omega arith) loop-again returns-2)
+    (tie.spec
+    Inv-loop μ-loop loop-holds (λ c. omega arith) (λ c. omega arith) (λ c. omega (arith, behind-first c)) (λ c. omega (arith, behind-first c)) loop-again returns)
