@@ -1,8 +1,8 @@
--- A pond's hydrograph is as long as its inflow, and every flow of it at most the last row's Q and so within the limit: a pond never meets 13. And no W passes 64 bits.
+-- What a pond lets out has as many ordinates as what comes in, and none above the last row's Q; that is a flow within the limit, so 13 is never met. And W fits 64 bits.
 --     ponded-length                 as many outflows as inflows
 --     ponded-last, ponded-within    none above the last row's Q; none above the limit of a flow (row-flow: nor is any row's Q)
 --     w-limit, row-limit            W of a row is at most 17,351,999,128,800,000, which is below 2 to the power 54
---     Interval                      an interval: what it starts from, within what an interval may bring (inflow-limit) from now on
+--     Interval                      what an interval starts from: a pool that holds what it lets out, and inflows within the limit; what they bring has one too (inflow-limit)
 --     w-after-whole, w-after-limit  nothing is subtracted below zero, and W grows by what comes in at most
 use Prim.Native.Nat.{ℕ, zero, suc, _+_, _-_, _*_, _≤_, zero-le}
 use mathlib.Core.Path.{_≡_, refl, ap}

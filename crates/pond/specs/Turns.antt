@@ -34,6 +34,11 @@ pub pools-after : (m : ℕ) (rows : List PoolRow) (pool : Pool) (xs : List ℕ) 
 pools-after m rows pool [] = refl
 pools-after m rows pool (x ∷ xs) = ap (λ (pools : List Pool). pool ∷ pools) (pools-after m rows (poolAfter m rows pool x) xs)
 
+or-turn : (t s r : Bool) → (t || s || r) ≡ (s || (t || r))
+or-turn true true r = refl
+or-turn true false r = refl
+or-turn false s r = refl
+
 module _ (m : ℕ) (rows : List PoolRow) where
   pub ponded-none : (xs : List ℕ) → length xs ≡ 0 → (xs ≡ pondedOf m rows xs) × (false ≡ overtopped m rows xs)
   unfolding pondedOf overtopped
@@ -57,11 +62,6 @@ module _ (m : ℕ) (rows : List PoolRow) where
     pub outflow-turn : v ≡ o′
         → take (i + 1) (set q i v) ++ outflowsAfter m rows (poolOf w′ x′ o′) (drop (i + 1) (set q i v)) ≡ take i q ++ outflowsAfter m rows (poolOf w x o) (drop i q)
     outflow-turn pv = overwrite-one (outflowsAfter m rows (poolOf w x o)) (outflowsAfter m rows (poolOf w′ x′ o′)) q i v h (rw (pv, po, px, pw))
-
-    or-turn : (t s r : Bool) → (t || s || r) ≡ (s || (t || r))
-    or-turn true true r = refl
-    or-turn true false r = refl
-    or-turn false s r = refl
 
     pub above-turn : (over over′ : Bool) → over′ ≡ ((lastW m rows <? w′) || over)
         → (over′ || aboveAfter m rows (poolOf w′ x′ o′) (drop (i + 1) (set q i v))) ≡ (over || aboveAfter m rows (poolOf w x o) (drop i q))

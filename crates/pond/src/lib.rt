@@ -16,7 +16,7 @@ ghost use Rattle.pond.specs.Levels.{riseOf, riseAt, noW, WsOf, RisesOf, 
 ghost use Rattle.pond.specs.Searches.{Topped, Climbed, Sunk, Sought, Searchable};
 ghost use Rattle.pond.specs.Turns.{poolOf, outflowsAfter, aboveAfter};
 
-// THE TABLE. Whether a row breaks a rule behind the one before it. Rows are in hundredths, as SV and SQ list them.
+// THE TABLE, in hundredths, as SV and SQ list it. One row's rules, asked against the row before it.
 fn row_breaks(m: u64, sv: u64, sq: u64, next_sv: u64, next_sq: u64) -> bool
     requires { ⌜ (m ≤ 1_440) × («next_sv» ≤ 9_999_999) × («next_sq» ≤ 10_000_000) ⌝ }
     ensures { λ r. ⌜ r ≡ rowBreaks m (poolRow sv sq) (poolRow «next_sv» «next_sq») ⌝ }
@@ -30,7 +30,7 @@ fn row_breaks(m: u64, sv: u64, sq: u64, next_sv: u64, next_sq: u64) -> bool
     1_452 * next_sv < m * next_sq
 }
 
-// Whether any row behind the first does, which is 0, 0.
+// The rules of all rows behind the first, which is 0, 0.
 fn rows_break(m: u64, svs: &[u64], sqs: &[u64]) -> bool
     requires { ⌜ (m ≤ 1_440) × (length (now svs) ≡ length (now sqs)) ⌝ }
     requires { ⌜ AllUpTo 9_999_999 (now svs) ⌝ }
@@ -75,8 +75,8 @@ pub fn table_breaks(m: u64, svs: &[u64], sqs: &[u64]) -> bool
     rows_break(m, svs, sqs)
 }
 
-// SPANS. A row and the next one: its place, W at both, its Q, and by how much Q and W rise to the next one, in hundredths of a cfs and of what W is then. All rows are
-// multiples of 600,000, and so the outflow between them asks for no product above 64 bits.
+// SPANS. A row and the next one, kept while W stays between them: the row's place, W of both (`low`, `high`), the row's Q (`out`), and by how much Q and W rise. Rows are multiples
+// of 600,000, and `more` and `rise` are cut by it: so the outflow asks for no product above 64 bits.
 struct Span {
     row: usize,
     low: u64,
@@ -218,8 +218,8 @@ fn seek(svs: &[u64], sqs: &[u64], ws: &[u64], rises: &[u64], s: Span, w: u64) ->
     s
 }
 
-// THE OUTFLOW. The number itself. The compiler does not see that nothing is changed, and so divides it at once; else it would first test, twice at every ordinate, whether a
-// division of 32 bits will do, which it will for hardly any W.
+// THE OUTFLOW. A number itself, for the divisions: the compiler does not see that nothing is changed, and so divides at once. Else it would first test, twice at every ordinate,
+// whether a division of 32 bits will do, which it will for hardly any W.
 fn plain(x: u64, small: u64) -> u64
     requires { ⌜ small < 4_294_967_296 ⌝ }
     ensures { λ r. ⌜ r ≡ x ⌝ }
@@ -227,7 +227,7 @@ fn plain(x: u64, small: u64) -> u64
     small / 4_294_967_296 ^ x
 }
 
-// A part of what Q rises by, rounded down: what `share`, which is `more` times as much of what W rises by, is of `rise`.
+// What is left of an interpolation, divided by what W rises by and rounded down.
 fn round_down(share: u64, rise: u64) -> u64
     requires { ⌜ (0 < rise) × (rise ≤ 28_919_998_548) × (share ≤ 289_199_985_480_000_000) ⌝ }
     ensures { λ r. ⌜ r ≡ share / rise ⌝ }
@@ -235,7 +235,7 @@ fn round_down(share: u64, rise: u64) -> u64
     share / rise
 }
 
-// At W on a span, or above the last one.
+// At W on a span, or above the last one. W above the row is divided by `rise` first, and what remains is multiplied before it is.
 fn outflow_at(m: u64, s: Span, w: u64) -> u64
     requires { ⌜ (m ≤ 1_440) × Graded s w ⌝ }
     ensures { λ r. ⌜ r ≡ outflowIn s w ⌝ }

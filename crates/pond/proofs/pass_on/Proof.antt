@@ -1,5 +1,5 @@
--- `pond::pass_on` meets its contract. Of the ordinates the first i are outflows and the rest are still inflows, of which the work left makes the outflows; and whether any
--- pool so far or still to come is above the last row is what is asked.
+-- `pond::pass_on` meets its contract. After i turns the first i ordinates are outflows, and behind them stand the inflows of the pools still to come, whose outflows are to be put
+-- there. Whether a pool is above the last row is asked of those that were and of those to come.
 use Prim.Native.Nat.{ℕ, _≤_, _<_, _+_, _-_, _*_}
 use mathlib.Core.Path.{_≡_, refl, sym, ap, _∙_}
 use mathlib.Core.Bool.{Bool, _||_, or-false}

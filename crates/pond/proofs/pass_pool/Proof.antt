@@ -1,4 +1,4 @@
--- `pond::pass_pool` meets its contract: the first outflow is 0, whatever flows in, and the other ordinates are passed on.
+-- `pond::pass_pool` meets its contract: the pool starts at W 0 and outflow 0, and the ordinates behind the first are passed on.
 use Prim.Native.Nat.{zero-le}
 use mathlib.Core.Path.{_≡_, _∙_}
 use native.Mathlib.Omega.{arith}

@@ -1,4 +1,4 @@
--- `pond::rows_break` meets its contract: of the rows that are left holds what is said of all behind the first.
+-- `pond::rows_break` meets its contract: as long as no rule was found broken, the rows still to be asked break one just where those behind the first do.
 use Prim.Native.Nat.{_+_, _-_}
 use mathlib.Core.Path.{_≡_, refl, sym, _∙_}
 use mathlib.Core.Bool.{Bool, true, false, _||_}
