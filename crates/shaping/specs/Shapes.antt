@@ -123,11 +123,13 @@ reach-shaped τ b held s time cards long =
     }
 
 -- a pond that 19 does not refuse
-pub pond-shaped : (τ : Time) (b : Block) (held : ℕ) → Shaped Pond τ b held → TimeWithin τ → CardsWithin b → PondTable (τ .minutes) (pondVolumes b) (pondOutflows b)
-pond-shaped τ b held s time cards =
+pub pond-shaped : (τ : Time) (b : Block) (held : ℕ) → Shaped Pond τ b held → TimeWithin τ → CardsWithin b → length (pondVolumes b) ≤ 20
+    → PondTable (τ .minutes) (pondVolumes b) (pondOutflows b)
+pond-shaped τ b held s time cards few =
     record {
       minutes = time .few-minutes;
       volumesUp = cards SV .high;
       outflowsUp = cards SQ .high;
+      few = few;
       whole = not-met (tableBreaks (τ .minutes) (pondVolumes b) (pondOutflows b)) 18 (shaped-passes τ b held s .whole);
     }

@@ -2,12 +2,15 @@
 use Prim.Native.Nat.{ℕ, _≤_}
 use mathlib.Core.Path.{_≡_, refl, sym, ap, _∙_}
 use mathlib.Core.List.{List, []}
+use native.Mathlib.Omega.{arith}
 use borrow.Author.Needs.{needs}
 use lib.ListN.{take}
 use Rattle.meaning.specs.Pool.{rowsOf, overtopped}
+use Rattle.meaning.specs.Records.{SV}
 use Rattle.meaning.specs.Blocks.{total, pondRows}
 use Rattle.blocks.specs.Meant.{timeIs}
 use Rattle.blocks.specs.Cards.{blockOf}
+use Rattle.blocks.specs.Values.{values-few}
 use Rattle.stack.specs.View.{view}
 use Rattle.stack.specs.Kinds.{after-pond}
 use Rattle.shaping.specs.Shapes.{takes-by, shaped-passes, pond-shaped}
@@ -23,7 +26,8 @@ pond-last-requires c κs =
     let b = blockOf [] (x .cards .now) in
     let read = s .pre .1 .0 in
     let some : 1 ≤ x .held .depth = shaped-passes τ b (x .held .depth) (s .pre .1 .1 []) .enough in
-    let table = pond-shaped τ b (x .held .depth) (s .pre .1 .1 []) (read .time) (read .cards) in
+    let few = values-few SV [] (x .cards .now) (omega arith) (read .words .long) in
+    let table = pond-shaped τ b (x .held .depth) (s .pre .1 .1 []) (read .time) (read .cards) few in
     ((some, s .pre .0 .fits), (s .pre .0 .flows, rw (c .before .before .values .ensures [], c .before .values2 .ensures []) table))
 
 -- the rows that were lent are the block's own
