@@ -62,10 +62,10 @@ module _ (m : ℕ) (svs sqs : List ℕ) (t : PondTable m svs sqs) where
         behind = r .same (length svs) (omega arith) ∙ rw none (getD-replicate 21 (length svs) noW 0 (omega (arith, t .few)));
       }
 
-  pub rises-listed : (blank rises : List ℕ) (i : ℕ) → length blank ≡ 20 → length svs ≤ i + 1 → Rewritten (riseAt m svs sqs) blank rises i → RisesOf m svs sqs rises
+  pub rises-listed : (blank rises : List ℕ) (i : ℕ) → blank ≡ replicate 20 0 → length svs ≤ i + 1 → Rewritten (riseAt m svs sqs) blank rises i → RisesOf m svs sqs rises
   rises-listed blank rises i none all r =
       record {
-        long = r .long ∙ none;
+        long = r .long ∙ rw none (length-replicate {A = ℕ} 20 0);
         at =
             λ (k : ℕ) h.
             let f = rows-follow m svs sqs t k h in

@@ -1,12 +1,11 @@
 -- A span, a row and the next one, as the code holds it.
 --     SpanOf         W and Q of the row, W of the next one, and by how much W and Q rise in hundredths; SpanAt: of the row at a place and the next one
 --     Reached        the place where W lies: not below the row's W, and not above the next one's unless that is the last row. Found: the span there
---     span-here      the span of a row and the next one stands at the row's place
 --     outflowIn      the outflow on a span, or above it, and Graded, what the code asks to reckon it in 64 bits (found-graded)
 --     graded-products, graded-on, graded-over   its products, and its outcome on the span and above it
 --     found-outflow  on the span where W lies this is the outflow; found-over: and whether W is above it is whether it is above the last row
 use Prim.Native.Nat.{ℕ, suc, _+_, _-_, _*_, _/_, _%_, _≤_, _<_}
-use mathlib.Core.Path.{_≡_, refl, sym, ap, subst, _∙_}
+use mathlib.Core.Path.{_≡_, refl, sym, ap, _∙_}
 use mathlib.Core.List.{List}
 use mathlib.Core.Logic.{⊎-elim}
 use native.Mathlib.Nat.{le-trans, mul-le-mul, mod-lt, div-le-of-le-mul}
@@ -43,11 +42,6 @@ pub record Reached (m : ℕ) (svs sqs : List ℕ) (row w : ℕ) : Type 0 where
 pub record Found (m : ℕ) (svs sqs : List ℕ) (s : Span) (w : ℕ) : Type 0 where
   pub at : SpanAt m svs sqs s
   pub reached : Reached m svs sqs (s .row) w
-
-pub span-here : (m : ℕ) (svs sqs : List ℕ) (s : Span) (row : ℕ) → s .row ≡ row → row + 1 < length svs → SpanOf m (rowAt svs sqs row) (rowAt svs sqs (row + 1)) s
-    → SpanAt m svs sqs s
-span-here m svs sqs s row e h p =
-    record { inside = omega arith; span = subst (λ (j : ℕ). SpanOf m (rowAt svs sqs j) (rowAt svs sqs (j + 1)) s) (sym e) p }
 
 abbrev pub outflowIn : Span → ℕ → ℕ
 outflowIn s w = if s .high <? w then s .out + 600_000 * s .more else s .out + s .more * (w - s .low) / s .rise

@@ -1,5 +1,5 @@
 -- A pond's table that 19 does not refuse, and what its rules give.
---     PondTable              the table, of values within the limits of their cards; two-rows, paired, ruled: 19's three parts
+--     PondTable              the table, of values within the limits of their cards and at most 20 rows; two-rows, paired, ruled: 19's three parts
 --     Follows                a row behind another one: V and W rise, Q does not fall, and 2M·Q is at most W (follows: by the rules)
 --     Kept                   rows from one on that keep the rules; kept-next and kept-rest take the next one off
 --     rules-kept             all rows keep them, and W of the first is 0

@@ -127,7 +127,7 @@ fn blank_ws() -> [u64; 21]
 }
 
 fn blank_rises() -> [u64; 20]
-    ensures { λ r. ⌜ length r ≡ 20 ⌝ }
+    ensures { λ r. ⌜ r ≡ replicate 20 0 ⌝ }
 {
     [0; 20]
 }

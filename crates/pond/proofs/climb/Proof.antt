@@ -1,6 +1,6 @@
 -- `pond::climb` meets its contract: W is above all rows that were passed, and so the loop ends ahead of the place that no W is above.
 use Prim.Native.Nat.{_-_, _≤_, _<_}
-use mathlib.Core.Path.{_≡_, refl}
+use mathlib.Core.Path.{refl}
 use native.Mathlib.Omega.{arith}
 use lib.ListN.{length}
 use Rattle.pond.specs.Levels.{noW}
@@ -31,10 +31,10 @@ loop-again : tie.Need-loop-again Inv-loop μ-loop
 loop-again c =
     let l = c .before .before in
     let x = l .before .args in
-    passed-more (x .ws .now) (x .row) (x .w) (l .loop .k) (l .loop .inv) (c .if1 .taken)
+    passed-more (x .ws .now) (x .row) (x .w) (l .loop .k) (l .loop .inv) (omega (arith, c .if1 .taken))
 
 returns : tie.Need-returns Inv-loop μ-loop
-returns c = record { passed = c .before .before .loop .inv; next = c .if1 .left }
+returns c = record { passed = c .before .before .loop .inv; next = omega (arith, c .if1 .left) }
 
 pub climb-spec : {M : Type 1} → statement M
 climb-spec =

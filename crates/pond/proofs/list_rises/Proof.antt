@@ -1,8 +1,8 @@
 -- `pond::list_rises` meets its contract: of the first i rows it is listed by how much W rises to the next one.
-use Prim.Native.Nat.{_+_, _-_, _≤_, _<_}
+use Prim.Native.Nat.{ℕ, _-_, _≤_, _<_}
 use mathlib.Core.Path.{_≡_, refl}
 use native.Mathlib.Omega.{arith}
-use lib.ListN.{length}
+use lib.ListN.{length, length-replicate}
 use borrow.Author.Needs.{needs}
 use Rattle.sequences.specs.Rewriting.{Rewritten, rewritten-none, rewritten-more}
 use Rattle.pond.specs.Levels.{riseAt, rises-listed}
@@ -32,11 +32,8 @@ rise-at-requires : tie.Need-rise-at-requires Inv-loop μ-loop
 rise-at-requires c κs = (entry (c .before .before) .pre, omega arith)
 
 -- There is room for every row but the last.
-room : (c : tie.After-rise-at Inv-loop μ-loop) → at-loop c .loop .i < length (at-loop c .before .blank-rises .result)
-room c = omega (arith, entry (at-loop c .before) .pre .few, at-loop c .before .blank-rises .ensures)
-
-mul-rises : tie.Need-mul-rises Inv-loop μ-loop
-mul-rises c = omega (arith, room c, at-loop c .before .blank-rises .ensures)
+room : (c : tie.After-rise-at Inv-loop μ-loop) → (at-loop c .loop .i < 20) × (length (at-loop c .before .blank-rises .result) ≡ 20)
+room c = (omega (arith, entry (at-loop c .before) .pre .few), rw (at-loop c .before .blank-rises .ensures) (length-replicate {A = ℕ} 20 0))
 
 array-write-rises : tie.Need-array-write-rises Inv-loop μ-loop
 array-write-rises c = omega (arith, room c, at-loop c .loop .inv .1 .long)
@@ -46,7 +43,7 @@ loop-again c =
     let x = entry (at-loop c .before) .args in
     let l = at-loop c .loop in
     let blank = at-loop c .before .blank-rises .result in
-    (omega arith, rewritten-more (riseAt (x .m) (x .svs .now) (x .sqs .now)) blank (l .rises) (l .i) _ (l .inv .1) (room c) (c .rise-at .ensures))
+    (omega arith, rewritten-more (riseAt (x .m) (x .svs .now) (x .sqs .now)) blank (l .rises) (l .i) _ (l .inv .1) (omega (arith, room c)) (c .rise-at .ensures))
 
 returns : tie.Need-returns Inv-loop μ-loop
 returns c =
@@ -59,4 +56,4 @@ pub list-rises-spec : {M : Type 1} → statement M
 list-rises-spec =
     tie.close
     (tie.spec
-    Inv-loop μ-loop (λ c κs. search needs) loop-holds add-loop rise-at-requires mul-rises array-write-rises (λ c. omega arith) (λ c. omega arith) loop-again returns)
+    Inv-loop μ-loop (λ c κs. search needs) loop-holds add-loop rise-at-requires (λ c. omega (arith, room c)) array-write-rises (λ c. omega arith) (λ c. omega arith) loop-again returns)

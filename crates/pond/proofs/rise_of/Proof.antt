@@ -1,6 +1,5 @@
 -- `pond::rise_of` meets its contract: W rises to that of the next row, which has its limit.
 use Prim.Native.Nat.{_+_, _*_, _≤_}
-use mathlib.Core.Path.{_≡_}
 use native.Mathlib.Omega.{arith}
 use borrow.Author.Needs.{needs}
 use Rattle.meaning.specs.Pool.{poolRow, wOf}
@@ -19,4 +18,4 @@ pub rise-of-spec : {M : Type 1} → statement M
 rise-of-spec =
     tie.close
     (tie.spec
-    (λ c. search needs) (λ c. search needs) (λ c. search needs) (λ c. omega (arith, limit c)) (λ c. omega (arith, limit c)) (λ c. search needs))
+    (λ c. search needs) (λ c. search needs) (λ c. search needs) (λ c. omega (arith, limit c)) (λ c. omega (arith, limit c)) (λ c. omega arith))

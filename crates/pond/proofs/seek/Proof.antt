@@ -1,6 +1,8 @@
 -- `pond::seek` meets its contract: below the span the search goes down and above it up; else W is on it.
-use Prim.Native.Nat.{_≤_}
+use Prim.Native.Nat.{_-_, _≤_, min}
+use mathlib.Core.Path.{_≡_}
 use native.Mathlib.Omega.{arith}
+use lib.ListN.{length}
 use borrow.Author.Needs.{needs}
 use Rattle.pond.specs.Levels.{noW}
 use Rattle.pond.specs.Searches.{first-low, row-topped, row-sought, sink-inside, sink-found, climb-inside, climb-found, stay-found}
@@ -42,7 +44,7 @@ returns c = λ m g.
     let below = c .before .before in
     let x = from-below below .args in
     rw (c .span-at .ensures)
-    (sink-found m (x .svs .now) (x .sqs .now) (x .ws .now) (x .rises .now) (x .s) g (x .w) (c .before .sink .result) (c .before .sink .ensures) (below .if1 .taken))
+    (sink-found m (x .svs .now) (x .sqs .now) (x .ws .now) (x .rises .now) (x .s) g (x .w) (c .before .sink .result) (c .before .sink .ensures) (omega (arith, below .if1 .taken)))
 
 climb-requires : tie.Need-climb-requires
 climb-requires c κs =
@@ -50,13 +52,17 @@ climb-requires c κs =
     let x = s .args in
     row-topped (s .pre .m) (x .svs .now) (x .sqs .now) (x .ws .now) (x .rises .now) (x .s) (s .pre .sought)
 
+-- The row at which the search upwards ends, or the last but one.
+clamped : (c : tie.After-smaller) → c .smaller .result ≡ min (c .before .climb .result) (length (from-above (c .before .before) .args .svs .now) - 2)
+clamped c = omega (arith, c .smaller .ensures)
+
 span-at-requires-2 : tie.Need-span-at-requires-2
 span-at-requires-2 c κs =
     let s = from-above (c .before .before) in
     let x = s .args in
     let g = s .pre .sought in
     row-sought (s .pre .m) (x .svs .now) (x .sqs .now) (x .ws .now) (x .rises .now) (x .s) g (c .smaller .result)
-    (climb-inside (s .pre .m) (x .svs .now) (x .sqs .now) (x .ws .now) (x .rises .now) (x .s) g (x .w) (c .before .climb .result) (c .smaller .result) (c .smaller .ensures))
+    (climb-inside (s .pre .m) (x .svs .now) (x .sqs .now) (x .ws .now) (x .rises .now) (x .s) g (x .w) (c .before .climb .result) (c .smaller .result) (clamped c))
 
 returns-2 : tie.Need-returns-2
 returns-2 c = λ m g.
@@ -65,13 +71,13 @@ returns-2 c = λ m g.
     let s = from-above above in
     let x = s .args in
     rw (c .span-at2 .ensures)
-    (climb-found m (x .svs .now) (x .sqs .now) (x .ws .now) (x .rises .now) (x .s) g (x .w) (up .climb .result) (c .before .smaller .result) (c .before .smaller .ensures)
-    (up .climb .ensures) (above .before .before .if1 .left) (fits s))
+    (climb-found m (x .svs .now) (x .sqs .now) (x .ws .now) (x .rises .now) (x .s) g (x .w) (up .climb .result) (c .before .smaller .result) (clamped (c .before))
+    (up .climb .ensures) (omega (arith, above .before .before .if1 .left)) (fits s))
 
 returns-3 : tie.Need-returns-3
 returns-3 c = λ m g.
     let x = from-else (c .before .before) .args in
-    stay-found m (x .svs .now) (x .sqs .now) (x .ws .now) (x .rises .now) (x .s) g (x .w) (c .before .before .if1 .left) (c .if2 .left)
+    stay-found m (x .svs .now) (x .sqs .now) (x .ws .now) (x .rises .now) (x .s) g (x .w) (omega (arith, c .before .before .if1 .left)) (omega (arith, c .if2 .left))
 
 pub seek-spec : {M : Type 1} → statement M
 seek-spec =

@@ -21,16 +21,16 @@ loop-holds c = left-none (c .args .ws .now) (c .args .row) (c .args .w) (c .args
 
 -- That is not the first.
 behind-first : (c : tie.Then1 Inv-loop μ-loop) → 0 < at-loop c .loop .k
-behind-first c = let s = at-loop c .before in left-behind (s .args .ws .now) (s .args .w) (at-loop c .loop .k) (c .if1 .taken) (s .pre .1)
+behind-first c = let s = at-loop c .before in left-behind (s .args .ws .now) (s .args .w) (at-loop c .loop .k) (omega (arith, c .if1 .taken)) (s .pre .1)
 
 loop-again : tie.Need-loop-again Inv-loop μ-loop
 loop-again c =
     let l = at-loop c in
     let x = l .before .args in
-    left-more (x .ws .now) (x .row) (x .w) (l .loop .k) (l .loop .inv) (c .if1 .taken) (behind-first c)
+    left-more (x .ws .now) (x .row) (x .w) (l .loop .k) (l .loop .inv) (omega (arith, c .if1 .taken)) (behind-first c)
 
 returns : tie.Need-returns Inv-loop μ-loop
-returns c = record { left = c .before .before .loop .inv; here = c .if1 .left }
+returns c = record { left = c .before .before .loop .inv; here = omega (arith, c .if1 .left) }
 
 pub sink-spec : {M : Type 1} → statement M
 sink-spec =
