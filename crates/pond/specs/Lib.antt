@@ -11,4 +11,3 @@ pub mod Searches
 pub mod Turns
 pub mod Pools
 pub mod Balance
-pub mod Sheet

@@ -1,11 +1,21 @@
 -- `making::make` meets its contract: each arm is the promise of the function that it calls; a block without a kind is refused before. Of a block that is no pond no
 -- pool can rise.
+use Prim.Native.Nat.{ℕ}
 use mathlib.Core.Path.{_≡_, refl}
+use mathlib.Core.Bool.{false}
+use mathlib.Core.List.{List}
 use borrow.Author.Needs.{needs}
+use Rattle.meaning.specs.Blocks.{overtopsBy}
+use Rattle.meaning.specs.Run.{takenBy}
 use Rattle.blocks.specs.Meant.{timeIs}
 use Rattle.blocks.specs.Cards.{blockOf}
+use Rattle.kinds.specs.declared.Kind.{Kind}
+use Rattle.kinds.specs.Kinds.{kindMeant}
+use Rattle.stack.specs.declared.Stack.{Stack}
+use Rattle.stack.specs.View.{view}
 use Rattle.shaping.specs.Shapes.{none-refused}
-use Rattle.making.specs.Made.{all-dry}
+use Rattle.making.specs.declared.Made.{Made}
+use Rattle.making.specs.Made.{Makes, MakesAll, madeDry, all-dry}
 use Rattle.making.proofs.make.Statement.{statement}
 use Rattle.making.proofs.make.Tie as tie
 
@@ -30,37 +40,37 @@ returns c = λ name.
     let x = s .args in
     absurd (none-refused (timeIs (x .time)) (blockOf name (x .cards .now)) (x .held .depth) (rw (c .before .enum-told .given .1) at (s .pre .1 .1 name)))
 
+-- an arm whose block is no pond: what its function made is all, and dry
+arm : (s : tie.Start) (name : List ℕ) {k : Kind} {next : Stack} {r : Made} {w : List ℕ} → let x = s .args in let τ = timeIs (x .time) in let b = blockOf name (x .cards .now) in
+    x .kind ≡ k → overtopsBy (kindMeant k) τ b (takenBy b (view (x .held) (τ .ordinates) (x .work .now))) ≡ false → Makes τ b (x .held) (x .work .now) next w → r ≡ madeDry next
+    → MakesAll τ b (x .held) (x .work .now) r w
+arm s name e none made dry =
+    let x = s .args in
+    all-dry (timeIs (x .time)) (blockOf name (x .cards .now)) (x .held) (x .work .now) (rw e at (s .pre .1 .1 name .is)) none made dry
+
 returns-2 : tie.Need-returns-2
 returns-2 c = λ name.
     let made = c .before .before .before in
     let told = made .before .before in
-    let s = told .before .before .before .before in
-    let x = s .args in
-    all-dry (timeIs (x .time)) (blockOf name (x .cards .now)) (x .held) (x .work .now) (rw (told .enum-told2 .given .1) at (s .pre .1 .1 name .is)) refl (made .make-basin .ensures name) (c .dry2 .ensures)
+    arm (told .before .before .before .before) name (told .enum-told2 .given .1) refl (made .make-basin .ensures name) (c .dry2 .ensures)
 
 returns-3 : tie.Need-returns-3
 returns-3 c = λ name.
     let made = c .before .before .before in
     let told = made .before .before in
-    let s = told .before .before .before .before in
-    let x = s .args in
-    all-dry (timeIs (x .time)) (blockOf name (x .cards .now)) (x .held) (x .work .now) (rw (told .enum-told3 .given .1) at (s .pre .1 .1 name .is)) refl (made .make-inflow .ensures name) (c .dry3 .ensures)
+    arm (told .before .before .before .before) name (told .enum-told3 .given .1) refl (made .make-inflow .ensures name) (c .dry3 .ensures)
 
 returns-4 : tie.Need-returns-4
 returns-4 c = λ name.
     let made = c .before .before .before in
     let told = made .before .before in
-    let s = told .before .before .before .before in
-    let x = s .args in
-    all-dry (timeIs (x .time)) (blockOf name (x .cards .now)) (x .held) (x .work .now) (rw (told .enum-told4 .given .1) at (s .pre .1 .1 name .is)) refl (made .make-confluence .ensures name) (c .dry4 .ensures)
+    arm (told .before .before .before .before) name (told .enum-told4 .given .1) refl (made .make-confluence .ensures name) (c .dry4 .ensures)
 
 returns-5 : tie.Need-returns-5
 returns-5 c = λ name.
     let made = c .before .before .before in
     let told = made .before .before in
-    let s = told .before .before .before .before in
-    let x = s .args in
-    all-dry (timeIs (x .time)) (blockOf name (x .cards .now)) (x .held) (x .work .now) (rw (told .enum-told5 .given .1) at (s .pre .1 .1 name .is)) refl (made .make-reach .ensures name) (c .dry5 .ensures)
+    arm (told .before .before .before .before) name (told .enum-told5 .given .1) refl (made .make-reach .ensures name) (c .dry5 .ensures)
 
 returns-6 : tie.Need-returns-6
 returns-6 c = λ name. let pond = c .before .before .make-pond .ensures in record { makes = pond .1 name; over = pond .0 name }
