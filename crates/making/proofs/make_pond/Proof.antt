@@ -1,11 +1,11 @@
 -- `making::make_pond` meets its contract: the last held goes through the pool of the block's own table, by what `pond_last` promises.
 use Prim.Native.Nat.{ℕ, _≤_}
-use mathlib.Core.Path.{_≡_, refl, sym, ap, _∙_}
+use mathlib.Core.Path.{_≡_, refl, sym, _∙_}
 use mathlib.Core.List.{List, []}
 use native.Mathlib.Omega.{arith}
 use borrow.Author.Needs.{needs}
 use lib.ListN.{take}
-use Rattle.meaning.specs.Pool.{rowsOf, overtopped}
+use Rattle.meaning.specs.Pool.{rowsOf}
 use Rattle.meaning.specs.Records.{SV}
 use Rattle.meaning.specs.Blocks.{total, pondRows}
 use Rattle.blocks.specs.Meant.{timeIs}
@@ -30,6 +30,10 @@ pond-last-requires c κs =
     let table = pond-shaped τ b (x .held .depth) (s .pre .1 .1 []) (read .time) (read .cards) few in
     ((some, s .pre .0 .fits), (s .pre .0 .flows, rw (c .before .before .values .ensures [], c .before .values2 .ensures []) table))
 
+-- where the pool was passed: behind the entry
+abbrev entry : tie.After-pond-last → tie.Start
+entry c = c .before .before .before .before .before .before
+
 -- the rows that were lent are the block's own
 rows : (c : tie.After-pond-last) (name : List ℕ) → let x = c .before .before .before .before .before .before .args in
     rowsOf (c .before .before .before .values .result .now) (c .before .before .values2 .result .now) ≡ pondRows (blockOf name (x .cards .now))
@@ -37,18 +41,20 @@ rows c name = rw (c .before .before .before .values .ensures name, c .before .be
 
 returns : tie.Need-returns
 returns c =
-    let s = c .before .before .before .before .before .before .before .before in
+    let q = c .before .before in
+    let s = entry q in
     let x = s .args in
     let τ = timeIs (x .time) in
-    let h = c .before .before .pond-last .ensures in (
-      λ name.
-          let b = blockOf name (x .cards .now) in
-          h .0 ∙ rw (rows (c .before .before) name, takes-by b (s .pre .1 .1 name .is)) (sym (over-by τ b (total (take 1 (view (x .held) (x .time .ordinates) (x .work .now)))) (s .pre .1 .1 name .is))),
+    let held = view (x .held) (x .time .ordinates) (x .work .now) in
+    let h = q .pond-last .ensures in (
       λ name.
           let b = blockOf name (x .cards .now) in
           let e = s .pre .1 .1 name .is in
-          makes-by τ b (x .held) (x .work .now) e refl (h .1 .0 ∙ rw (rows (c .before .before) name))
-          (h .1 .1 ∙ rw (rows (c .before .before) name) (sym (after-pond τ b (view (x .held) (x .time .ordinates) (x .work .now)) e))),
+          h .0 ∙ rw (rows q name, takes-by b e) (sym (over-by τ b (total (take 1 held)) e)),
+      λ name.
+          let b = blockOf name (x .cards .now) in
+          let e = s .pre .1 .1 name .is in
+          makes-by τ b (x .held) (x .work .now) e refl (h .1 .0 ∙ rw (rows q name)) (h .1 .1 ∙ rw (rows q name) (sym (after-pond τ b held e))),
     )
 
 pub make-pond-spec : {M : Type 1} → statement M

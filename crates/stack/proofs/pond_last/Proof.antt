@@ -1,7 +1,6 @@
 -- `stack::pond_last` meets its contract: the part that was lent comes back ponded, and the law of a change in its place gives the view.
 use Prim.Native.Nat.{_+_, _-_, _*_}
 use mathlib.Core.Path.{_≡_, sym, ap, _∙_}
-use mathlib.Core.List.{List}
 use native.Mathlib.Omega.{arith}
 use borrow.Author.Needs.{needs}
 use lib.ListN.{length}
