@@ -2,7 +2,7 @@
 use Rattle.meaning.specs.Words.{if_then_else_, same}
 use Rattle.meaning.specs.Lines.{linesOf, allPlain, foreign, allBlank}
 use Rattle.meaning.specs.Fields.{trimEnd, skipBlanks, strip, fixedField, fixedFields, markOf, freeFrom, freeFields, fieldsOf, word}
-use Rattle.meaning.specs.Numbers.{unsigned, beforePoint, behindPoint, allDigits, readOn, decimalOf, numberOf, inUnits}
+use Rattle.meaning.specs.Numbers.{unsigned, beforePoint, behindPoint, allDigits, readOn, fractionLeft, decimalOf, numberOf, inUnits}
 use Rattle.meaning.specs.Records.{begins, says, identify, valueFields, anyField, valuesFrom, anyBlank, wordIn, badName}
 use Rattle.meaning.specs.Water.{rainOf, cutOf, weighed}
 use Rattle.meaning.specs.Pool.{wOf, rowBreaks, tableBreaks, between, wAfter, pondedOf, overtopped}
@@ -14,5 +14,5 @@ use Rattle.meaning.specs.Sheet.{sixPlaces, titleLine, headLine, rowLine,
 use Rattle.meaning.specs.Moving.{recordsIn, anyFilled, anyOther, toNew, toOld}
 
 unfoldable pub computing : Unit {0}
-unfolding if_then_else_ same linesOf allPlain foreign allBlank trimEnd skipBlanks strip fixedField fixedFields markOf freeFrom freeFields fieldsOf word unsigned beforePoint behindPoint allDigits readOn decimalOf numberOf inUnits begins says identify valueFields anyField valuesFrom anyBlank wordIn badName rainOf cutOf weighed wOf rowBreaks tableBreaks between wAfter pondedOf overtopped tooMany holds kindOf takes stormRain rain patternless loss excess made broken overtops oldRecordOf recordOf headOf timeRefusal timeOf ratioRefusal withRatios nameRefusal itemRefusal withItem readLine shapeRefusal flowRefusal closingRefusal withResult walk workedUnder namedFlow namedRatio noRoom outcome whole twoPlaces listed refusedLine ratioLine endLine listing sixPlaces titleLine headLine rowLine sumLine noSheetLine sheet recordsIn anyFilled anyOther toNew toOld
+unfolding if_then_else_ same linesOf allPlain foreign allBlank trimEnd skipBlanks strip fixedField fixedFields markOf freeFrom freeFields fieldsOf word unsigned beforePoint behindPoint allDigits readOn fractionLeft decimalOf numberOf inUnits begins says identify valueFields anyField valuesFrom anyBlank wordIn badName rainOf cutOf weighed wOf rowBreaks tableBreaks between wAfter pondedOf overtopped tooMany holds kindOf takes stormRain rain patternless loss excess made broken overtops oldRecordOf recordOf headOf timeRefusal timeOf ratioRefusal withRatios nameRefusal itemRefusal withItem readLine shapeRefusal flowRefusal closingRefusal withResult walk workedUnder namedFlow namedRatio noRoom outcome whole twoPlaces listed refusedLine ratioLine endLine listing sixPlaces titleLine headLine rowLine sumLine noSheetLine sheet recordsIn anyFilled anyOther toNew toOld
 computing = tt
