@@ -4,12 +4,13 @@ use mathlib.Core.List.{List}
 use Prim.Native.Nat.{ℕ, _+_, _/_, _^_, _≤_, _<_}
 use native.Mathlib.Omega.{arith}
 use lib.ListN.{length}
+use Rattle.meaning.specs.Fields.{isBlank}
 use Rattle.meaning.specs.Results.{recordSize}
 use Rattle.sequences.specs.Bounds.{AllUpTo, bound-part}
 use Rattle.sequences.specs.Parts.{part, length-part}
+use Rattle.sequences.specs.Trimming.{trim-within}
 use Rattle.slices.specs.Bytes.{fromLittleEndian, value-below}
 use Rattle.text.specs.Digits.{whole-short, length-twoPlaces}
-use Rattle.text.specs.Trim.{length-trim}
 use Rattle.figures.specs.Line.{figuresOf, lineOf, lineSize, length-figures, length-line}
 
 module _ (r : List ℕ) (bytes : AllUpTo 255 r) (long : length r ≡ recordSize) where
@@ -22,7 +23,7 @@ module _ (r : List ℕ) (bytes : AllUpTo 255 r) (long : length r ≡ recordSize)
   line-short =
       let f = figuresOf r in
       let six : 0 + 6 ≤ length r = omega arith in
-      let name = length-trim (part 0 6 r) in
+      let name = trim-within isBlank (part 0 6 r) in
       let kind = figure-below 6 1 (omega arith) in
       let area = figure-below 8 4 (omega arith) in
       let peak = figure-below 12 8 (omega arith) in

@@ -1,18 +1,20 @@
--- A number is two runs of digits, with a point between them where there are two: what the definition, which cuts at the first point, makes of a
--- text whose first run of digits ends at `n`.
-use Prim.Native.Nat.{ℕ, suc, _+_, _-_, _≤_, _<_}
+-- A number is two runs of digits, with a point between them where there are two, and zeros behind the second: what the definition, which cuts at the first
+-- point, makes of a text whose first run of digits ends at `n`.
+use Prim.Native.Nat.{ℕ, zero, suc, _+_, _-_, _≤_, _<_}
 use mathlib.Core.Path.{_≡_, refl, sym, _∙_, ap}
 use mathlib.Core.Bool.{Bool, true, false}
 use mathlib.Core.List.{List, [], _∷_, _++_, append-nil, append-assoc}
 use native.Mathlib.Nat.{add-zero}
 use native.Mathlib.Numerals.{add-one}
 use native.Mathlib.Omega.{arith}
-use borrow.Author.Tests.{ne-eqb}
-use lib.ListN.{length, take, drop, getD, length-append, length-drop, drop-of-length-le}
-use lib.Seq.{drop-cons, split-at, take-all, length-take-le}
+use borrow.Author.Tests.{ne-eqb, eqb-true}
+use lib.ListN.{length, take, drop, getD, replicate, length-append, length-drop, drop-of-length-le}
+use lib.Seq.{drop-cons, split-at, take-all, take-add, drop-at, length-take-le}
 use Rattle.meaning.specs.Words.{if_then_else_}
-use Rattle.meaning.specs.Numbers.{NoNumber, isDigit, beforePoint, behindPoint, allDigits, readOn, decimalOf}
+use Rattle.meaning.specs.Fields.{trimEnd}
+use Rattle.meaning.specs.Numbers.{NoNumber, isDigit, isZero, beforePoint, behindPoint, allDigits, readOn, fractionLeft, decimalOf}
 use Rattle.sequences.specs.Runs.{run, every, run-within, run-stops, every-run, every-append, not-every, is-every, test-tells}
+use Rattle.sequences.specs.Trimming.{trim-front, trim-split}
 use Rattle.numbers.specs.declared.Digits.{Digits}
 use Rattle.numbers.specs.Reading.{counted, digitsFrom}
 
@@ -46,11 +48,24 @@ behind-run (b ∷ s) = go (isDigit b) refl (behind-run s)
     go true e ih = rw (test-tells isDigit b 0x2E e refl) ih
     go false e ih = refl
 
+-- the zeros that are taken off are digits
+every-zeros : (z : ℕ) → every isDigit (replicate z 0x30) ≡ true
+unfolding every
+every-zeros zero = refl
+every-zeros (suc z) = every-zeros z
+
+zeros-split : (s : List ℕ) → (z : ℕ) × (s ≡ trimEnd isZero s ++ replicate z 0x30)
+zeros-split = trim-split isZero 0x30 (λ b. eqb-true b 0x30)
+
+pub fraction-split : (s : List ℕ) → (z : ℕ) × (behindPoint s ≡ fractionLeft s ++ replicate z 0x30)
+unfolding fractionLeft
+fraction-split s = zeros-split (behindPoint s)
+
 -- digits only, before and behind the point; or something else
-decimal-digits : (minus : Bool) (s ds ps : List ℕ) → beforePoint s ++ behindPoint s ≡ ds → behindPoint s ≡ ps → every isDigit ds ≡ true
-    → decimalOf minus s ≡ counted minus (readOn 0 ds) (length ds) (length ps)
+decimal-digits : (minus : Bool) (s ds ws ls : List ℕ) → beforePoint s ++ behindPoint s ≡ ds → beforePoint s ≡ ws → fractionLeft s ≡ ls → every isDigit ds ≡ true
+    → decimalOf minus s ≡ counted minus (readOn 0 (ws ++ ls)) (length ds) (length ls)
 unfolding decimalOf counted
-decimal-digits minus s ds ps e f h = rw (e, f, digits-every, h)
+decimal-digits minus s ds ws ls e f g h = rw (e, f, g, digits-every, h)
 
 decimal-none : (minus : Bool) (s xs : List ℕ) (b : ℕ) (ys : List ℕ) → beforePoint s ++ behindPoint s ≡ xs ++ (b ∷ ys) → isDigit b ≡ false
     → NoNumber ≡ decimalOf minus s
@@ -68,13 +83,14 @@ module _ (minus : Bool) (s : List ℕ) (n : ℕ) (first : n ≡ run isDigit s) w
   cut-behind = rw first (behind-run s)
 
   pub whole-only : length s ≤ n → decimalOf minus s ≡ counted minus (readOn 0 (take n s)) n 0
-  unfolding beforePoint behindPoint
+  unfolding beforePoint behindPoint fractionLeft trimEnd
   whole-only h =
       let z : drop n s ≡ [] = drop-of-length-le s h in
       let p : behindPoint s ≡ [] = cut-behind ∙ rw z in
-      let d : beforePoint s ++ behindPoint s ≡ take n s = rw (cut-before, p, z, append-nil, append-nil) in
-      decimal-digits minus s (take n s) [] d p (rw first (every-run isDigit s))
-      ∙ ap (λ (k : ℕ). counted minus (readOn 0 (take n s)) k 0) (length-take-le n s n-within)
+      let w : beforePoint s ≡ take n s = rw (cut-before, z, append-nil) in
+      let d : beforePoint s ++ behindPoint s ≡ take n s = rw (w, p, append-nil) in
+      decimal-digits minus s (take n s) (take n s) [] d w (rw p) (rw first (every-run isDigit s))
+      ∙ rw (append-nil, length-take-le n s n-within)
 
   module _ (more : n < length s) where
     pub no-point : (getD s n 0 ≡ 0x2E → ⊥) → NoNumber ≡ decimalOf minus s
@@ -87,33 +103,50 @@ module _ (minus : Bool) (s : List ℕ) (n : ℕ) (first : n ≡ run isDigit s) w
         decimal-none minus s (take n s) (getD s n 0) _ e (rw first (run-stops isDigit s (omega arith)))
 
     module _ (point : getD s n 0 ≡ 0x2E) where
-      both-runs : beforePoint s ++ behindPoint s ≡ take n s ++ drop (n + 1) s
-      unfolding beforePoint behindPoint if_then_else_
-      both-runs = rw (add-one, cut-before, cut-behind, drop-cons s n 0 more, point, append-nil)
+      whole-run : beforePoint s ≡ take n s
+      unfolding beforePoint if_then_else_
+      whole-run = rw (cut-before, drop-cons s n 0 more, point, append-nil)
 
       last-run : behindPoint s ≡ drop (n + 1) s
       unfolding behindPoint if_then_else_
       last-run = rw (add-one, cut-behind, drop-cons s n 0 more, point)
 
-      module _ (m : ℕ) (second : m ≡ run isDigit (drop (n + 1) s)) where
-        pub not-digits : n + 1 + m < length s → NoNumber ≡ decimalOf minus s
-        not-digits h =
-            let t = drop (n + 1) s in
-            let still : m < length t = simp length-drop (omega arith) in
-            let e : beforePoint s ++ behindPoint s ≡ (take n s ++ take m t) ++ (getD t m 0 ∷ drop (suc m) t) =
-            both-runs ∙ ap (λ (l : List ℕ). take n s ++ l) (split-at t m 0 still) ∙ sym (append-assoc (take n s) (take m t) _) in
-            decimal-none minus s (take n s ++ take m t) (getD t m 0) _ e (rw second (run-stops isDigit t (omega arith)))
+      abbrev left : List ℕ
+      left = trimEnd isZero (drop (n + 1) s)
 
-        pub point-digits : length s ≤ n + 1 + m
-            → decimalOf minus s ≡ counted minus (readOn (readOn 0 (take n s)) (take m (drop (n + 1) s))) (n + m) m
+      left-is : fractionLeft s ≡ left
+      unfolding fractionLeft
+      left-is = ap (trimEnd isZero) last-run
+
+      both-runs : beforePoint s ++ behindPoint s ≡ take n s ++ drop (n + 1) s
+      both-runs = rw (whole-run, last-run)
+
+      abbrev zeros : List ℕ
+      zeros = replicate (zeros-split (drop (n + 1) s) .0) 0x30
+
+      with-zeros : drop (n + 1) s ≡ left ++ zeros
+      with-zeros = zeros-split (drop (n + 1) s) .1
+
+      module _ (m : ℕ) (second : m ≡ run isDigit left) where
+        pub not-digits : m < length left → NoNumber ≡ decimalOf minus s
+        not-digits h =
+            let b = getD left m 0 in
+            let rest = drop (suc m) left ++ zeros in
+            let cut : drop (n + 1) s ≡ take m left ++ (b ∷ rest) =
+            with-zeros ∙ ap (λ (l : List ℕ). l ++ zeros) (split-at left m 0 h) ∙ append-assoc (take m left) (b ∷ drop (suc m) left) zeros in
+            let e : beforePoint s ++ behindPoint s ≡ (take n s ++ take m left) ++ (b ∷ rest) =
+            both-runs ∙ ap (λ (l : List ℕ). take n s ++ l) cut ∙ sym (append-assoc (take n s) (take m left) (b ∷ rest)) in
+            decimal-none minus s (take n s ++ take m left) b rest e (rw second (run-stops isDigit left (omega arith)))
+
+        pub point-digits : length left ≤ m
+            → decimalOf minus s ≡ counted minus (readOn (readOn 0 (take n s)) (take m left)) (n + length (drop (n + 1) s)) (length left)
         point-digits h =
-            let t = drop (n + 1) s in
-            let all : take m t ≡ t = take-all m t (simp length-drop (omega arith)) in
-            let k : length (take m t) ≡ m = length-take-le m t (omega (arith, run-within isDigit t)) in
-            let e : beforePoint s ++ behindPoint s ≡ take n s ++ take m t = both-runs ∙ ap (λ (l : List ℕ). take n s ++ l) (sym all) in
-            decimal-digits minus s (take n s ++ take m t) (take m t) e (last-run ∙ sym all)
-            (every-append isDigit (take n s) (take m t) (rw first (every-run isDigit s)) (rw second (every-run isDigit t)))
-            ∙ rw (readOn-append, length-append, length-take-le n s n-within, k)
+            let all : take m left ≡ left = take-all m left h in
+            let ours : every isDigit left ≡ true = ap (every isDigit) (sym all) ∙ rw second (every-run isDigit left) in
+            let behind : every isDigit (drop (n + 1) s) ≡ true = ap (every isDigit) with-zeros ∙ every-append isDigit left zeros ours (every-zeros _) in
+            decimal-digits minus s (take n s ++ drop (n + 1) s) (take n s) left both-runs whole-run left-is
+            (every-append isDigit (take n s) (drop (n + 1) s) (rw first (every-run isDigit s)) behind)
+            ∙ rw (readOn-append, length-append, length-take-le n s n-within, all)
 
 -- The same by what the runs of digits answer.
 module _ (minus : Bool) (s : List ℕ) (d : Digits) (found : d ≡ digitsFrom s 0 0) where
@@ -123,25 +156,38 @@ module _ (minus : Bool) (s : List ℕ) (d : Digits) (found : d ≡ digitsFrom s 
   first-value : readOn 0 (take (d .end) s) ≡ d .value
   first-value = ap (λ (k : ℕ). readOn 0 (take k s)) first-run ∙ sym (ap (λ (x : Digits). x .value) found)
 
-  pub read-whole : length s ≤ d .end → counted minus (d .value) (d .end + 0) 0 ≡ decimalOf minus s
-  read-whole h = rw (← first-value, add-zero) (sym (whole-only minus s (d .end) first-run h))
+  pub read-whole : length s ≤ d .end → counted minus (d .value) (d .end) 0 ≡ decimalOf minus s
+  read-whole h = rw (← first-value) (sym (whole-only minus s (d .end) first-run h))
 
   pub read-no-point : d .end < length s → (getD s (d .end) 0 ≡ 0x2E → ⊥) → NoNumber ≡ decimalOf minus s
   read-no-point = no-point minus s (d .end) first-run
 
-  module _ (more : d .end < length s) (point : getD s (d .end) 0 ≡ 0x2E) (r : Digits) (after : r ≡ digitsFrom s (d .end + 1) (d .value)) where
-    abbrev places : ℕ
-    places = run isDigit (drop (d .end + 1) s)
+  module _ (more : d .end < length s) (point : getD s (d .end) 0 ≡ 0x2E) (places : ℕ) (few : places ≡ length (trimEnd isZero (drop (d .end + 1) s)))
+      (r : Digits) (after : r ≡ digitsFrom (take (d .end + 1 + places) s) (d .end + 1) (d .value)) where
+    abbrev kept : List ℕ
+    kept = trimEnd isZero (drop (d .end + 1) s)
 
-    second-run : r .end ≡ d .end + 1 + places
-    second-run = ap (λ (x : Digits). x .end) after
+    -- what is read behind the point is what is left of the fraction
+    kept-read : drop (d .end + 1) (take (d .end + 1 + places) s) ≡ kept
+    kept-read =
+        let front : length (take (d .end + 1) s) ≡ d .end + 1 = length-take-le (d .end + 1) s (omega arith) in
+        ap (drop (d .end + 1)) (take-add (d .end + 1) places s)
+        ∙ drop-at (take (d .end + 1) s) (take places (drop (d .end + 1) s)) (d .end + 1) front
+        ∙ ap (λ (k : ℕ). take k (drop (d .end + 1) s)) few
+        ∙ trim-front isZero (drop (d .end + 1) s)
 
-    pub read-not-digits : r .end < length s → NoNumber ≡ decimalOf minus s
-    read-not-digits h = not-digits minus s (d .end) first-run more point places refl (omega (arith, second-run))
+    second-run : r .end ≡ d .end + 1 + run isDigit kept
+    second-run = ap (λ (x : Digits). x .end) after ∙ ap (λ (l : List ℕ). d .end + 1 + run isDigit l) kept-read
 
-    pub read-places : length s ≤ r .end → counted minus (r .value) (d .end + (r .end - (d .end + 1))) (r .end - (d .end + 1)) ≡ decimalOf minus s
+    second-value : r .value ≡ readOn (readOn 0 (take (d .end) s)) (take (run isDigit kept) kept)
+    second-value =
+        ap (λ (x : Digits). x .value) after ∙ ap (λ (l : List ℕ). readOn (d .value) (take (run isDigit l) l)) kept-read
+        ∙ ap (λ (v : ℕ). readOn v (take (run isDigit kept) kept)) (sym first-value)
+
+    pub read-not-digits : r .end < d .end + 1 + places → NoNumber ≡ decimalOf minus s
+    read-not-digits h = not-digits minus s (d .end) first-run more point (run isDigit kept) refl (omega (arith, second-run, few))
+
+    pub read-places : d .end + 1 + places ≤ r .end → counted minus (r .value) (length s - 1) places ≡ decimalOf minus s
     read-places h =
-        let p : r .end - (d .end + 1) ≡ places = omega (arith, second-run) in
-        let v : readOn (readOn 0 (take (d .end) s)) (take places (drop (d .end + 1) s)) ≡ r .value =
-        rw first-value (sym (ap (λ (x : Digits). x .value) after)) in
-        rw (p, ← v) (sym (point-digits minus s (d .end) first-run more point places refl (omega (arith, second-run))))
+        let all : length s - 1 ≡ d .end + length (drop (d .end + 1) s) = simp length-drop (omega arith) in
+        rw (second-value, all, few) (sym (point-digits minus s (d .end) first-run more point (run isDigit kept) refl (omega (arith, second-run, few))))

@@ -1,12 +1,13 @@
-// Numbers as fields hold them: an optional sign, a run of digits, an optional point and a second run. What is read is the value and the places as
-// written; how many places a field allows is not told here.
+// Numbers as fields hold them: an optional sign, a run of digits, an optional point and a second run. What is read is the value and the places left
+// after trailing zeros of the fraction are taken off; how many places a field allows is not told here.
 ghost use mathlib.Core.Path.{_≡_};
 ghost use Prim.Native.Nat.{_+_, _^_, _≤_, _<_};
 ghost use lib.ListN.{length};
-ghost use Rattle.meaning.specs.Numbers.{numberOf, decimalOf};
+ghost use Rattle.meaning.specs.Fields.{trimEnd};
+ghost use Rattle.meaning.specs.Numbers.{isZero, numberOf, decimalOf};
 ghost use Rattle.numbers.specs.Reading.{numberIs, signLength, digitsFrom, counted};
 
-// Nothing that is a number; or whether below 0, the digits and how many of them stand behind the point.
+// Nothing that is a number; or whether below 0, the digits that are left and how many of them stand behind the point.
 pub enum Number {
     NoNumber,
     Decimal(bool, u64, u64),
@@ -39,12 +40,24 @@ fn read_digits(s: &[u8], at: usize, start: u64) -> Digits
     Digits { end: i, value: v }
 }
 
-// A number has one digit at least and nine at most.
-fn count_digits(minus: bool, digits: u64, whole: usize, places: usize) -> Number
-    requires { ⌜ whole + places ≤ 11 ⌝ }
-    ensures { λ r. ⌜ numberIs r ≡ counted minus digits (whole + places) places ⌝ }
+// How many places are left of a fraction when its trailing zeros are taken off.
+fn places_left(fraction: &[u8]) -> usize
+    ensures { λ r. ⌜ r ≡ length (trimEnd isZero (now (fraction .entry))) ⌝ }
 {
-    let count = whole + places;
+    let mut n = fraction.len();
+    while 0 < n {
+        if fraction[n - 1] != 0x30 {
+            return n;
+        }
+        n -= 1;
+    }
+    n
+}
+
+// A number has one digit at least and nine at most, zeros counted.
+fn count_digits(minus: bool, digits: u64, count: usize, places: usize) -> Number
+    ensures { λ r. ⌜ numberIs r ≡ counted minus digits count places ⌝ }
+{
     if count < 1 {
         return Number::NoNumber;
     }
@@ -54,7 +67,7 @@ fn count_digits(minus: bool, digits: u64, whole: usize, places: usize) -> Number
     Number::Decimal(minus, digits, places as u64)
 }
 
-// The number that stands behind a sign, if there was one.
+// The number that stands behind a sign, if there was one. Trailing zeros of the fraction are not read: they are digits, and count as such.
 fn read_unsigned(minus: bool, s: &[u8]) -> Number
     requires { ⌜ length (now s) ≤ 11 ⌝ }
     ensures { λ r. ⌜ numberIs r ≡ decimalOf minus (now (s .entry)) ⌝ }
@@ -69,12 +82,13 @@ fn read_unsigned(minus: bool, s: &[u8]) -> Number
         return Number::NoNumber;
     }
     let from = end + 1;
-    let all = read_digits(s, from, whole.value);
-    let last = all.end;
-    if last < s.len() {
+    let places = places_left(&s[from..]);
+    let last = from + places;
+    let all = read_digits(&s[..last], from, whole.value);
+    if all.end < last {
         return Number::NoNumber;
     }
-    count_digits(minus, all.value, end, last - from)
+    count_digits(minus, all.value, s.len() - 1, places)
 }
 
 // How many bytes a sign takes, if `b` is one.

@@ -19,7 +19,7 @@ use Rattle.fields.specs.declared.Span.{Span}
 use Rattle.fields.specs.Spans.{Stands, firstPlace, spanAt, fieldsFrom}
 use Rattle.fields.specs.Fixed.{start-bounds, start-next}
 use Rattle.fields.specs.Turns.{turn, first-fields, fields-done}
-use Rattle.records.specs.Blanks.{trim-split}
+use Rattle.records.specs.Blanks.{fields-split}
 
 abbrev pub blanksFor : ℕ → ℕ → List (List ℕ) → List (List ℕ)
 blanksFor named i fs = fs ++ replicate (named - (i + length fs)) []
@@ -135,7 +135,7 @@ pub record Starts (form : Form) (named : ℕ) (l : List ℕ) : Type 0 where
 pub left-first : (form : Form) (named : ℕ) (l : List ℕ) → Starts form named l
 left-first form named l =
     let raw = fieldsFrom form 0 (firstPlace form l) l in
-    let h = trim-split raw in
+    let h = fields-split raw in
     let e = first-fields form l in
     let m = named - (0 + length raw) in
     let split : raw ≡ fieldsOf form l ++ replicate (h .0) [] = rw e at (h .1) in

@@ -15,7 +15,7 @@ use Rattle.meaning.specs.Words.{if_then_else_, empty}
 use Rattle.meaning.specs.Fields.{trimEnd}
 use Rattle.meaning.specs.Records.{Rule, Unnamed, Row, Once, Listed, Item, rowOf, rulesIn, listsIn, filledUp, valueFields, faultyField, outsideField, anyField, anyFaulty, anyOutside, valuesFrom}
 use Rattle.records.specs.Rows.{spanIn}
-use Rattle.records.specs.Blanks.{trim-split, BlankPasses, BlankListed, named-sound, named-inside, blanks-split, faulty-first, filled-long, trimmed-short}
+use Rattle.records.specs.Blanks.{fields-split, BlankPasses, BlankListed, named-sound, named-inside, blanks-split, faulty-first, filled-long, trimmed-short}
 use Rattle.scanning.specs.Pass.{Scanned, scanFrom, scan-outside, scan-count, scan-first, scan-length}
 
 -- The fields that hold a record's values.
@@ -52,7 +52,7 @@ trim-append [] n = trim-blanks n
 trim-append (f ∷ fs) n = rw (trim-append fs n)
 
 pub trim-trim : (fs : List (List ℕ)) → trimEnd empty (trimEnd empty fs) ≡ trimEnd empty fs
-trim-trim fs = let h = trim-split fs in sym (trim-append (trimEnd empty fs) (h .0)) ∙ ap (trimEnd empty) (sym (h .1))
+trim-trim fs = let h = fields-split fs in sym (trim-append (trimEnd empty fs) (h .0)) ∙ ap (trimEnd empty) (sym (h .1))
 
 -- where nothing was kept before
 pub record Fresh (s : Scanned) : Type 0 where

@@ -2,10 +2,11 @@
 use Prim.Native.Nat.{_≤_}
 use mathlib.Core.Path.{_≡_, sym, ap, _∙_}
 use native.Mathlib.Omega.{arith}
+use borrow.Author.Tests.{eq-eqb, ne-eqb}
 use lib.ListN.{length, take}
 use lib.Seq.{take-length, length-take-le}
 use Rattle.meaning.specs.Fields.{trimEnd, isBlank}
-use Rattle.text.specs.Trim.{trim-on, trim-stop, trim-none}
+use Rattle.sequences.specs.Trimming.{take-none, take-pass, take-stop}
 use Rattle.text.proofs.trim_blanks.Statement.{statement}
 use Rattle.text.proofs.trim_blanks.Tie as tie
 
@@ -25,13 +26,13 @@ returns : tie.Need-returns Inv-loop μ-loop
 returns c =
     let l = c .before .before .before .before .loop in
     let s = c .before .before .before .before .before .args .s .now in
-    sym (trim-stop s (l .n) (omega arith) (omega arith) (c .before .if1 .taken)) ∙ l .inv .1
+    sym (take-stop isBlank s (l .n) (omega arith) (omega arith) (ne-eqb _ _ (c .before .if1 .taken))) ∙ l .inv .1
 
 loop-again : tie.Need-loop-again Inv-loop μ-loop
 loop-again c =
     let l = c .before .before .before .loop in
     let s = c .before .before .before .before .args .s .now in
-    (omega arith, sym (trim-on s (l .n) (omega arith) (omega arith) (c .if1 .left)) ∙ l .inv .1)
+    (omega arith, sym (take-pass isBlank s (l .n) (omega arith) (omega arith) (eq-eqb _ _ (c .if1 .left))) ∙ l .inv .1)
 
 slice-aggregate-result-2 : tie.Need-slice-aggregate-result-2 Inv-loop μ-loop
 slice-aggregate-result-2 c = sym (length-take-le (c .before .before .loop .n) (c .before .before .before .args .s .now) (omega arith))
@@ -41,7 +42,7 @@ returns-2 c =
     let l = c .before .before .loop in
     let s = c .before .before .before .args .s .now in
     let none : l .n ≡ 0 = omega arith in
-    sym (trim-none s (l .n) none) ∙ l .inv .1
+    sym (take-none isBlank s (l .n) none) ∙ l .inv .1
 
 pub trim-blanks-spec : {M : Type 1} → statement M
 trim-blanks-spec =
