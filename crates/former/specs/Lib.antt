@@ -3,3 +3,5 @@ pub mod Reader
 pub mod Values
 pub mod ByReader
 pub mod Followed
+pub mod Alike
+pub mod Answers
