@@ -5,3 +5,4 @@ pub mod ByReader
 pub mod Followed
 pub mod Alike
 pub mod Answers
+pub mod Figures
