@@ -1,31 +1,21 @@
 -- How large a field's number can be: it has nine digits at most.
-use Prim.Native.Nat.{ℕ, suc, _+_, _-_, _*_, _^_, _≤_, _<_}
+use Prim.Native.Nat.{ℕ, _^_, _≤_, _<_}
 use mathlib.Core.Path.{_≡_, refl, sym, _∙_, ap}
 use mathlib.Core.Bool.{Bool, true, false, _&&_}
 use mathlib.Core.List.{List, [], _∷_, _++_, append-assoc}
-use native.Mathlib.Nat.{mul-one, pow-zero, pow-succ'}
 use native.Mathlib.Omega.{arith}
 use borrow.Author.Tests.{leb-true}
 use lib.ListN.{length, replicate, length-append}
 use Rattle.meaning.specs.Words.{_=?_, _≤?_, if_then_else_}
 use Rattle.meaning.specs.Numbers.{Number, NoNumber, Decimal, isDigit, unsigned, beforePoint, behindPoint, allDigits, readOn, fractionLeft, decimalOf, numberOf}
 use Rattle.sequences.specs.Choices.{both-hold}
-use Rattle.numbers.specs.Digits.{ten-below}
-use Rattle.numbers.specs.Decimals.{fraction-split}
+use Rattle.sequences.specs.Digits.{fraction-split}
+use Rattle.numbers.specs.Digits.{ten-below, readOn-below}
 
 -- nine digits at most, and no more places
 abbrev pub Small : Number → Type 0
 Small NoNumber = Unit {0}
 Small (Decimal minus digits places) = (digits < 10 ^ 9) × (places ≤ 9)
-
-readOn-below : (n k : ℕ) (ds : List ℕ) → allDigits ds ≡ true → n < k → readOn n ds < k * 10 ^ length ds
-unfolding readOn allDigits
-readOn-below n k [] h b = rw (pow-zero, mul-one) b
-readOn-below n k (d ∷ ds) h b =
-    let both = both-hold (isDigit d) (allDigits ds) h in
-    let low : d ≤ 0x39 = leb-true _ _ (both-hold (0x30 ≤? d) (d ≤? 0x39) (both .0) .1) in
-    let e : k * 10 ^ suc (length ds) ≡ 10 * k * 10 ^ length ds = rw pow-succ' (omega arith) in
-    rw e (readOn-below (10 * n + (d - 0x30)) (10 * k) ds (both .1) (omega arith))
 
 digits-front : (xs ys : List ℕ) → allDigits (xs ++ ys) ≡ true → allDigits xs ≡ true
 unfolding allDigits
@@ -60,7 +50,8 @@ module _ (minus : Bool) (s : List ℕ) where
       go true h =
           let few = both-hold _ _ h in
           let some = both-hold _ _ (few .0) in
-          let nine : length left ≤ 9 = omega (arith, leb-true _ _ (few .1), left-short) in
+          let short : length digits ≤ 9 = leb-true _ _ (few .1) in
+          let nine : length left ≤ 9 = omega (arith, left-short) in
           let ours : allDigits left ≡ true = digits-front left zeros (ap allDigits (sym digits-left) ∙ some .0) in (
             omega (arith, readOn-below 0 1 left ours (omega arith), ten-below (length left) 9 nine),
             omega (arith, length-append (beforePoint s) (fractionLeft s)),

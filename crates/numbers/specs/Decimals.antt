@@ -1,31 +1,29 @@
 -- A number is two runs of digits, with a point between them where there are two, and zeros behind the second: what the definition, which cuts at the first
 -- point, makes of a text whose first run of digits ends at `n`.
-use Prim.Native.Nat.{ℕ, zero, suc, _+_, _-_, _≤_, _<_}
+use Prim.Native.Nat.{ℕ, zero, suc, _+_, _-_, _^_, _≤_, _<_}
 use mathlib.Core.Path.{_≡_, refl, sym, _∙_, ap}
 use mathlib.Core.Bool.{Bool, true, false}
 use mathlib.Core.List.{List, [], _∷_, _++_, append-nil, append-assoc}
 use native.Mathlib.Nat.{add-zero}
 use native.Mathlib.Numerals.{add-one}
 use native.Mathlib.Omega.{arith}
-use borrow.Author.Tests.{ne-eqb, eqb-true}
+use borrow.Author.Tests.{ne-eqb}
 use lib.ListN.{length, take, drop, getD, replicate, length-append, length-drop, drop-of-length-le}
-use lib.Seq.{drop-cons, split-at, take-all, take-add, drop-at, length-take-le}
+use lib.Seq.{drop-cons, split-at, take-all, length-take-le}
 use Rattle.meaning.specs.Words.{if_then_else_}
 use Rattle.meaning.specs.Fields.{trimEnd}
-use Rattle.meaning.specs.Numbers.{NoNumber, isDigit, isZero, beforePoint, behindPoint, allDigits, readOn, fractionLeft, decimalOf}
+use Rattle.meaning.specs.Numbers.{NoNumber, Decimal, isDigit, isZero, beforePoint, behindPoint, allDigits, readOn, fractionLeft, decimalOf}
+use Rattle.sequences.specs.Choices.{taken, in-range}
 use Rattle.sequences.specs.Runs.{run, every, run-within, run-stops, every-run, every-append, not-every, is-every, test-tells}
-use Rattle.sequences.specs.Trimming.{trim-front, trim-split}
+use Rattle.sequences.specs.Digits.{readOn-append, fraction-split}
+use Rattle.sequences.specs.Trimming.{trim-front}
 use Rattle.numbers.specs.declared.Digits.{Digits}
 use Rattle.numbers.specs.Reading.{counted, digitsFrom}
+use Rattle.numbers.specs.Digits.{readOn-below}
 
 digits-every : (l : List ℕ) → allDigits l ≡ every isDigit l
 unfolding allDigits
 digits-every = is-every isDigit allDigits refl (λ b l. refl)
-
-readOn-append : (n : ℕ) (xs ys : List ℕ) → readOn n (xs ++ ys) ≡ readOn (readOn n xs) ys
-unfolding readOn
-readOn-append n [] ys = refl
-readOn-append n (x ∷ xs) ys = readOn-append _ xs ys
 
 -- no digit is a point
 before-run : (s : List ℕ) → beforePoint s ≡ take (run isDigit s) s ++ beforePoint (drop (run isDigit s) s)
@@ -53,13 +51,6 @@ every-zeros : (z : ℕ) → every isDigit (replicate z 0x30) ≡ true
 unfolding every
 every-zeros zero = refl
 every-zeros (suc z) = every-zeros z
-
-zeros-split : (s : List ℕ) → (z : ℕ) × (s ≡ trimEnd isZero s ++ replicate z 0x30)
-zeros-split = trim-split isZero 0x30 (λ b. eqb-true b 0x30)
-
-pub fraction-split : (s : List ℕ) → (z : ℕ) × (behindPoint s ≡ fractionLeft s ++ replicate z 0x30)
-unfolding fractionLeft
-fraction-split s = zeros-split (behindPoint s)
 
 -- digits only, before and behind the point; or something else
 decimal-digits : (minus : Bool) (s ds ws ls : List ℕ) → beforePoint s ++ behindPoint s ≡ ds → beforePoint s ≡ ws → fractionLeft s ≡ ls → every isDigit ds ≡ true
@@ -122,10 +113,10 @@ module _ (minus : Bool) (s : List ℕ) (n : ℕ) (first : n ≡ run isDigit s) w
       both-runs = rw (whole-run, last-run)
 
       abbrev zeros : List ℕ
-      zeros = replicate (zeros-split (drop (n + 1) s) .0) 0x30
+      zeros = replicate (fraction-split s .0) 0x30
 
       with-zeros : drop (n + 1) s ≡ left ++ zeros
-      with-zeros = zeros-split (drop (n + 1) s) .1
+      with-zeros = sym last-run ∙ fraction-split s .1 ∙ ap (λ (l : List ℕ). l ++ zeros) left-is
 
       module _ (m : ℕ) (second : m ≡ run isDigit left) where
         pub not-digits : m < length left → NoNumber ≡ decimalOf minus s
@@ -143,51 +134,73 @@ module _ (minus : Bool) (s : List ℕ) (n : ℕ) (first : n ≡ run isDigit s) w
         point-digits h =
             let all : take m left ≡ left = take-all m left h in
             let ours : every isDigit left ≡ true = ap (every isDigit) (sym all) ∙ rw second (every-run isDigit left) in
-            let behind : every isDigit (drop (n + 1) s) ≡ true = ap (every isDigit) with-zeros ∙ every-append isDigit left zeros ours (every-zeros _) in
+            let behind : every isDigit (drop (n + 1) s) ≡ true = ap (every isDigit) with-zeros ∙ every-append isDigit left zeros ours (every-zeros (fraction-split s .0)) in
             decimal-digits minus s (take n s ++ drop (n + 1) s) (take n s) left both-runs whole-run left-is
             (every-append isDigit (take n s) (drop (n + 1) s) (rw first (every-run isDigit s)) behind)
             ∙ rw (readOn-append, length-append, length-take-le n s n-within, all)
 
--- The same by what the runs of digits answer.
-module _ (minus : Bool) (s : List ℕ) (d : Digits) (found : d ≡ digitsFrom s 0 0) where
+-- The same by what the runs of digits answer. The first of them:
+module _ (s : List ℕ) (d : Digits) (found : d ≡ digitsFrom s 0 0) where
   first-run : d .end ≡ run isDigit s
   first-run = ap (λ (x : Digits). x .end) found ∙ omega arith
+
+  first-within : d .end ≤ length s
+  first-within = omega (arith, first-run, run-within isDigit s)
 
   first-value : readOn 0 (take (d .end) s) ≡ d .value
   first-value = ap (λ (k : ℕ). readOn 0 (take k s)) first-run ∙ sym (ap (λ (x : Digits). x .value) found)
 
+  -- a number of so many digits is below that power of ten
+  pub first-below : d .value < 10 ^ d .end
+  first-below =
+      let below = readOn-below 0 1 (take (d .end) s) (digits-every (take (d .end) s) ∙ rw first-run (every-run isDigit s)) (omega arith) in
+      omega (arith, rw (first-value, length-take-le (d .end) s first-within) at below)
+
+module _ (minus : Bool) (s : List ℕ) (d : Digits) (found : d ≡ digitsFrom s 0 0) where
+  abbrev first : d .end ≡ run isDigit s
+  first = first-run s d found
+
   pub read-whole : length s ≤ d .end → counted minus (d .value) (d .end) 0 ≡ decimalOf minus s
-  read-whole h = rw (← first-value) (sym (whole-only minus s (d .end) first-run h))
+  read-whole h = rw (← first-value s d found) (sym (whole-only minus s (d .end) first h))
 
   pub read-no-point : d .end < length s → (getD s (d .end) 0 ≡ 0x2E → ⊥) → NoNumber ≡ decimalOf minus s
-  read-no-point = no-point minus s (d .end) first-run
+  read-no-point = no-point minus s (d .end) first
 
-  module _ (more : d .end < length s) (point : getD s (d .end) 0 ≡ 0x2E) (places : ℕ) (few : places ≡ length (trimEnd isZero (drop (d .end + 1) s)))
-      (r : Digits) (after : r ≡ digitsFrom (take (d .end + 1 + places) s) (d .end + 1) (d .value)) where
+  module _ (more : d .end < length s) (point : getD s (d .end) 0 ≡ 0x2E) where
+    abbrev fraction : List ℕ
+    fraction = drop (d .end + 1) s
+
     abbrev kept : List ℕ
-    kept = trimEnd isZero (drop (d .end + 1) s)
+    kept = trimEnd isZero fraction
 
-    -- what is read behind the point is what is left of the fraction
-    kept-read : drop (d .end + 1) (take (d .end + 1 + places) s) ≡ kept
-    kept-read =
-        let front : length (take (d .end + 1) s) ≡ d .end + 1 = length-take-le (d .end + 1) s (omega arith) in
-        ap (drop (d .end + 1)) (take-add (d .end + 1) places s)
-        ∙ drop-at (take (d .end + 1) s) (take places (drop (d .end + 1) s)) (d .end + 1) front
-        ∙ ap (λ (k : ℕ). take k (drop (d .end + 1) s)) few
-        ∙ trim-front isZero (drop (d .end + 1) s)
+    -- the point is the last byte
+    pub read-no-fraction : length fraction < 1 → counted minus (d .value) (d .end) 0 ≡ decimalOf minus s
+    unfolding trimEnd readOn run
+    read-no-fraction h =
+        let short : length s ≤ d .end + 1 = omega (arith, length-drop (d .end + 1) s) in
+        let none : fraction ≡ [] = drop-of-length-le s short in
+        let all = point-digits minus s (d .end) first more point (run isDigit kept) refl (rw none (omega arith)) in
+        rw (← first-value s d found) (sym (rw (none, add-zero) at all))
 
-    second-run : r .end ≡ d .end + 1 + run isDigit kept
-    second-run = ap (λ (x : Digits). x .end) after ∙ ap (λ (l : List ℕ). d .end + 1 + run isDigit l) kept-read
+    module _ (places : ℕ) (few : places ≡ length kept) (r : Digits) (after : r ≡ digitsFrom (take places fraction) 0 (d .value)) where
+      -- what is read behind the point is what is left of the fraction
+      kept-read : take places fraction ≡ kept
+      kept-read = ap (λ (k : ℕ). take k fraction) few ∙ trim-front isZero fraction
 
-    second-value : r .value ≡ readOn (readOn 0 (take (d .end) s)) (take (run isDigit kept) kept)
-    second-value =
-        ap (λ (x : Digits). x .value) after ∙ ap (λ (l : List ℕ). readOn (d .value) (take (run isDigit l) l)) kept-read
-        ∙ ap (λ (v : ℕ). readOn v (take (run isDigit kept) kept)) (sym first-value)
+      second-run : r .end ≡ run isDigit kept
+      second-run = ap (λ (x : Digits). x .end) after ∙ ap (λ (l : List ℕ). 0 + run isDigit l) kept-read ∙ omega arith
 
-    pub read-not-digits : r .end < d .end + 1 + places → NoNumber ≡ decimalOf minus s
-    read-not-digits h = not-digits minus s (d .end) first-run more point (run isDigit kept) refl (omega (arith, second-run, few))
+      second-value : r .value ≡ readOn (readOn 0 (take (d .end) s)) (take (run isDigit kept) kept)
+      second-value =
+          ap (λ (x : Digits). x .value) after ∙ ap (λ (l : List ℕ). readOn (d .value) (take (run isDigit l) l)) kept-read
+          ∙ ap (λ (v : ℕ). readOn v (take (run isDigit kept) kept)) (sym (first-value s d found))
 
-    pub read-places : d .end + 1 + places ≤ r .end → counted minus (r .value) (length s - 1) places ≡ decimalOf minus s
-    read-places h =
-        let all : length s - 1 ≡ d .end + length (drop (d .end + 1) s) = simp length-drop (omega arith) in
-        rw (second-value, all, few) (sym (point-digits minus s (d .end) first-run more point (run isDigit kept) refl (omega (arith, second-run, few))))
+      pub read-not-digits : r .end < places → NoNumber ≡ decimalOf minus s
+      read-not-digits h = not-digits minus s (d .end) first more point (run isDigit kept) refl (omega (arith, second-run, few))
+
+      pub read-places : places ≤ r .end → 1 ≤ length fraction → length s ≤ 10 → Decimal minus (r .value) places ≡ decimalOf minus s
+      unfolding counted
+      read-places h some short =
+          let count : d .end + length fraction ≡ length s - 1 = simp length-drop (omega arith) in
+          let all = point-digits minus s (d .end) first more point (run isDigit kept) refl (omega (arith, second-run, few)) in
+          rw (second-value, few) (taken _ (in-range 1 9 (d .end + length fraction) (omega arith) (omega arith)) refl ∙ sym all)

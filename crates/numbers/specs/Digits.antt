@@ -2,13 +2,16 @@
 use Prim.Native.Nat.{ℕ, suc, _+_, _-_, _*_, _^_, _≤_, _<_}
 use mathlib.Core.Path.{_≡_, _∙_, ap}
 use mathlib.Core.Bool.{true, false}
-use mathlib.Core.List.{List}
-use native.Mathlib.Nat.{add-zero, pow-suc, pow-le-pow-right}
+use mathlib.Core.List.{List, [], _∷_}
+use native.Mathlib.Nat.{add-zero, mul-one, pow-zero, pow-suc, pow-succ', pow-le-pow-right}
 use native.Mathlib.Numerals.{add-one}
 use native.Mathlib.Omega.{arith}
+use borrow.Author.Tests.{leb-true}
 use lib.ListN.{length, take, drop, getD}
 use lib.Seq.{drop-cons}
-use Rattle.meaning.specs.Numbers.{isDigit, readOn}
+use Rattle.meaning.specs.Words.{_≤?_}
+use Rattle.meaning.specs.Numbers.{isDigit, allDigits, readOn}
+use Rattle.sequences.specs.Choices.{both-hold}
 use Rattle.sequences.specs.Runs.{run, run-more, run-stop, run-end}
 use Rattle.numbers.specs.declared.Digits.{Digits}
 use Rattle.numbers.specs.Reading.{digitsFrom}
@@ -18,6 +21,15 @@ ten-more n = ap (λ (k : ℕ). 10 ^ k) (add-one n) ∙ pow-suc 10 n
 
 pub ten-below : (n m : ℕ) → n ≤ m → 10 ^ n ≤ 10 ^ m
 ten-below n m h = pow-le-pow-right (omega arith) h
+
+pub readOn-below : (n k : ℕ) (ds : List ℕ) → allDigits ds ≡ true → n < k → readOn n ds < k * 10 ^ length ds
+unfolding readOn allDigits
+readOn-below n k [] h b = rw (pow-zero, mul-one) b
+readOn-below n k (d ∷ ds) h b =
+    let both = both-hold (isDigit d) (allDigits ds) h in
+    let low : d ≤ 0x39 = leb-true _ _ (both-hold (0x30 ≤? d) (d ≤? 0x39) (both .0) .1) in
+    let e : k * 10 ^ suc (length ds) ≡ 10 * k * 10 ^ length ds = rw pow-succ' (omega arith) in
+    rw e (readOn-below (10 * n + (d - 0x30)) (10 * k) ds (both .1) (omega arith))
 
 -- a run that ends at `end` reads on to `value`
 abbrev pub digitsTo : ℕ → ℕ → Digits

@@ -54,7 +54,5 @@ unfolding numberOf
 behind-sign [] h = absurd (let k : 1 ≤ 0 = h in omega arith)
 behind-sign (b ∷ s) h = ap (decimalOf (b =? 0x2D)) (sym (unsigned-drop b s))
 
-pub long-number : (f : List ℕ) → 11 < length f → NoNumber ≡ numberOf f
-long-number f h =
-    let b = getD f 0 0 in
-    long-decimal (b =? 0x2D) (drop (signLength b) f) (simp length-drop (omega (arith, sign-one b))) ∙ behind-sign f (omega arith)
+pub long-number : (f : List ℕ) → 1 ≤ length f → 10 < length (drop (signLength (getD f 0 0)) f) → NoNumber ≡ numberOf f
+long-number f some h = let b = getD f 0 0 in long-decimal (b =? 0x2D) (drop (signLength b) f) h ∙ behind-sign f some

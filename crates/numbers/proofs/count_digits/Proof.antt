@@ -1,5 +1,4 @@
 -- Each way out is one way through the definition's test.
-use borrow.Author.Needs.{needs}
 use mathlib.Core.Path.{refl}
 use Rattle.sequences.specs.Choices.{taken, passed, in-range, below-range, above-range}
 use Rattle.numbers.specs.Reading.{counted}
@@ -19,4 +18,4 @@ unfolding counted
 returns-3 c = taken _ (in-range 1 9 _ (c .before .if1 .left) (c .if2 .left)) refl
 
 pub count-digits-spec : {M : Type 1} → statement M
-count-digits-spec = tie.close (tie.spec (λ c. search needs) returns returns-2 returns-3)
+count-digits-spec = tie.close (tie.spec returns returns-2 returns-3)
