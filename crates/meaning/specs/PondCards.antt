@@ -28,7 +28,7 @@ storTable =
     row (refusalIn (worked (alone (bytes "RS 1,STOR\nRS X\n")))) (5 ∷ 5 ∷ []) ∷
     -- 6: no number, a place behind the point, a fourth field; before 7 over the whole line
     row (refusalIn (worked (alone (bytes "RS X,STOR\n")))) (6 ∷ 4 ∷ []) ∷
-    row (refusalIn (worked (alone (bytes "RS 1,STOR,0.0\n")))) (6 ∷ 4 ∷ []) ∷
+    row (refusalIn (worked (alone (bytes "RS 1,STOR,0.5\n")))) (6 ∷ 4 ∷ []) ∷
     row (refusalIn (worked (alone (bytes "RS 1,STOR,0,0\n")))) (6 ∷ 4 ∷ []) ∷
     row (refusalIn (worked (alone (bytes "RS 2,FLOW,X\n")))) (6 ∷ 4 ∷ []) ∷
     -- 7: another number of steps, and a blank one; another word, also by its letters or one letter more, and a blank one; another start

@@ -49,7 +49,7 @@ table =
     -- a second PB, before its fields are looked at; a field behind the first, and five places; over 100 inches
     row (refusalIn (worked (basin (bytes "PB 1\nPB X\nPI 1\n")))) (5 ∷ 6 ∷ []) ∷
     row (refusalIn (worked (basin (bytes "PB 1,0\nPI 1\n")))) (6 ∷ 5 ∷ []) ∷
-    row (refusalIn (worked (basin (bytes "PB 0.00010\nPI 1\n")))) (6 ∷ 5 ∷ []) ∷
+    row (refusalIn (worked (basin (bytes "PB 0.00011\nPI 1\n")))) (6 ∷ 5 ∷ []) ∷
     row (refusalIn (worked (basin (bytes "PB 100.0001\nPI 1\n")))) (7 ∷ 5 ∷ []) ∷
     -- 9 comes before 18, and PB makes no other block a kind
     row (refusalIn (worked noUnits)) (9 ∷ 8 ∷ []) ∷
