@@ -1,4 +1,5 @@
-/* From bytes to fields; see cards.h and document 01, 'From bytes to fields'. */
+/* From bytes to fields; see cards.h, document 01, 'From bytes to fields', and
+ * document 02, CR 7, for zeros at the end of a fraction. */
 #include "cards.h"
 
 enum {
@@ -143,38 +144,76 @@ bool read_name(struct text line, bool free_form, struct text *name)
     return name->length >= 1 && name->length <= NAME_LIMIT;
 }
 
+static bool is_digit(uint8_t byte)
+{
+    return byte >= '0' && byte <= '9';
+}
+
+/* Puts the digits that stand here behind those of the number, and returns
+ * where they end.  A field may hold more of them than a number can have: what
+ * such a number comes to does not matter, because it is refused. */
+static const uint8_t *take_digits(const uint8_t *at, const uint8_t *end,
+                                  uint64_t *number)
+{
+    uint64_t taken = *number;
+
+    for (; at < end && is_digit(*at); at++)
+        taken = taken * 10 + (uint64_t)(*at - '0');
+    *number = taken;
+    return at;
+}
+
+static const uint8_t *skip_zeros(const uint8_t *at, const uint8_t *end)
+{
+    while (at < end && *at == '0')
+        at++;
+    return at;
+}
+
+/* Takes as many places of a fraction as are allowed, counted in left, and
+ * returns where the fraction ends.  Behind them nothing but zeros can stand:
+ * any other digit makes one more place that is left when the zeros at the end
+ * are taken off.  Zeros among the places taken need not come off, since the
+ * value is counted in units of the last place allowed. */
+static const uint8_t *take_fraction(const uint8_t *at, const uint8_t *end,
+                                    unsigned *left, uint64_t *number)
+{
+    const uint8_t *first = at;
+    const uint8_t *last = end;
+
+    if (end - at > *left)
+        last = at + *left;
+    at = take_digits(at, last, number);
+    *left -= (unsigned)(at - first);
+    return skip_zeros(at, end);
+}
+
 bool read_number(struct text field, unsigned places, int64_t *value)
 {
     const uint8_t *at = field.at;
     const uint8_t *end = at + field.length;
     bool negative = false;
-    bool point = false;
-    unsigned digits = 0;
-    unsigned decimals = 0;
-    int64_t number = 0;
+    uint64_t number = 0;
 
     *value = 0;
     if (at == end)
         return true;
     if (*at == '+' || *at == '-')
         negative = *at++ == '-';
-    for (; at < end; at++) {
-        if (*at >= '0' && *at <= '9') {
-            if (++digits > DIGIT_LIMIT)
-                return false;
-            number = number * 10 + (*at - '0');
-            if (point)
-                decimals++;
-        } else if (*at == '.' && !point) {
-            point = true;
-        } else {
-            return false;
-        }
+
+    const uint8_t *first = at;
+    at = take_digits(at, end, &number);
+    unsigned digits = (unsigned)(at - first);
+    if (at < end && *at == '.') {
+        first = ++at;
+        at = take_fraction(at, end, &places, &number);
+        digits += (unsigned)(at - first);
     }
-    if (digits == 0 || decimals > places)
+    /* The limit of digits counts the zeros that say nothing, too. */
+    if (at < end || digits == 0 || digits > DIGIT_LIMIT)
         return false;
-    for (; decimals < places; decimals++)
+    for (; places > 0; places--)
         number *= 10;
-    *value = negative ? -number : number;
+    *value = negative ? -(int64_t)number : (int64_t)number;
     return true;
 }

@@ -1,6 +1,6 @@
 /* From bytes to fields: cuts a deck into lines, a line into fields and a
- * field into a whole number.  Follows document 01, 'From bytes to fields'.
- * Nothing here knows what any record means. */
+ * field into a whole number.  Follows document 01, 'From bytes to fields', and
+ * document 02, CR 7.  Nothing here knows what any record means. */
 #ifndef CARDS_H
 #define CARDS_H
 
@@ -51,7 +51,9 @@ bool split_fields(struct text line, bool free_form, struct fields *fields);
 bool read_name(struct text line, bool free_form, struct text *name);
 
 /* The value of a field counted in units of its last allowed place.
- * False: malformed. */
+ * False: malformed, which a number is too when more places than allowed are
+ * left after the zeros at the end of its fraction are taken off.  The limit of
+ * nine digits counts those zeros. */
 bool read_number(struct text field, unsigned places, int64_t *value);
 
 #endif

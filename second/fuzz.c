@@ -1,7 +1,7 @@
 /* Fuzz driver of the self-test: runs thousands of mutated decks under the
  * sanitizers, from a fixed seed.  No outcome is known beforehand; what is
  * tested is what must hold for any deck (document 01, 'What comes back', and
- * document 02, CR 3 to CR 6):
+ * document 02, CR 3 to CR 7):
  * outcomes do not depend on what the lent room held or on room to spare,
  * refusals leave zeros, too little room is refused only where nothing else
  * is, records agree with ordinates and say their ratio, they move to the old
@@ -75,6 +75,7 @@ static const char *const seeds[] = {
 static const char *const scraps[] = {
     "\n", "\r\n", "\r", ",", ",,", " ", "   ", "0", "1", "9", "-0", "-1", "+", ".",
     "20.0001", "100000.01", "999999999", "9999999999", "\t", "\x7f",
+    ".0", "00", ".000", "-0.0", "60.0", "60.5", "1.500", "1.500000000",
     "KK X\n", "KK LONGNAME\n", "KM\n", "*FREE\n", "*FIX\n", "*FREE X\n", "ID\n",
     "IT 60,,,4\n", "BA 1\n", "PI 1,2\n", "LU 0,0\n", "UI 1\n", "QI 1\n", "HC 2\n",
     "RM 1,1,.2\n", "ZZ\n", "KK X\nQI 1\n", "KK X\nHC 2\n", "KK X\nRM 1,1,.2\n",
