@@ -1,6 +1,7 @@
 /* The deck writer: seeded test decks for the engine of document 01, with the
-   storm totals, losses, ratios and ponds of document 02, CR 1 to CR 3 and CR 6,
-   files of records for the mover of CR 4 and decks for the sheet of CR 5. */
+   storm totals, losses, ratios, ponds and trailing zeros of document 02, CR 1 to
+   CR 3, CR 6 and CR 7, files of records for the mover of CR 4 and decks for the
+   sheet of CR 5. */
 #include <stdio.h>
 #include <stdlib.h>
 #include <string.h>
@@ -30,6 +31,7 @@ static const char help[] =
     "decks damaged SEED COUNT NUMBER  COUNT decks, each with one damage aimed at that refusal (2 to 16, 18 to 20)\n"
     "decks one SEED INDEX             deck INDEX (from 0) of the bundle of that seed, bare\n"
     "decks big SEED lists [BYTES]                       one long deck of PI, UI and QI lines, bare\n"
+    "decks big SEED zeros [BYTES]                       the same with zeros past the places of each value, bare\n"
     "decks big SEED blocks [BLOCKS [NQ [UNITS [RAIN]]]] one deck of runoff blocks and confluences, bare\n"
     "decks big SEED storms [BLOCKS [NQ [UNITS [RAIN]]]] the same with a total (PB) in each runoff block, bare;\n"
     "                                 fewer blocks where 60,000 bytes would be passed\n"
@@ -146,8 +148,8 @@ static int pick_refusal(void)
 {
     /* 2 and 14 make long decks, so they come less often */
     static const int usual[] = {
-        3, 3, 4, 4, 5, 5, 5, 6, 6, 6, 7, 7, 7, 8, 8, 9, 9, 9, 10, 10, 11, 11, 12, 12, 13, 13, 13, 15, 15, 16, 18, 18, 18,
-        19, 19, 19, 20, 20, 20
+        3, 3, 4, 4, 5, 5, 5, 6, 6, 6, 6, 6, 7, 7, 7, 7, 7, 8, 8, 9, 9, 9, 10, 10, 11, 11, 12, 12, 13, 13, 13, 15, 15, 16,
+        18, 18, 18, 19, 19, 19, 20, 20, 20
     };
     int r = rnd(1000);
     if (r < 8) return 2;
@@ -532,21 +534,29 @@ static void say(const char *t)
     used += n;
 }
 
-static void say_number(int v, int places)
+/* v counted in the last place, and so many zeros past its places */
+static void say_value(int v, int places, int past)
 {
     char t[16];
     number_write(t, v, places, 15, 0);
+    if (past > 0)
+        number_past(t, places, past);
     say(t);
 }
 
+static void say_number(int v, int places)
+{
+    say_value(v, places, 0);
+}
+
 /* one list line of c values of up to `top`, counted in the last place */
-static void say_list(const char *ident, int c, int least, int top, int places)
+static void say_list(const char *ident, int c, int least, int top, int places, int past)
 {
     int i;
     say(ident);
     for (i = 0; i < c; i++) {
         if (i) say(",");
-        say_number(between(least, top), places);
+        say_value(between(least, top), places, past);
     }
     say("\n");
 }
@@ -565,9 +575,11 @@ static void say_block(void)
     say(t);
 }
 
-static void big_lists(int size)
+/* zeros: two of them past the places of each value, and no more than eight
+   values a line, since ten would pass 80 bytes */
+static void big_lists(int size, int zeros)
 {
-    int k = 0, blocks = 0;
+    int k = 0, blocks = 0, line = zeros ? 8 : 10, past = zeros ? 2 : 0;
     say("ID LISTS\n*FREE\nIT 60,,,300\n");
     /* runoff, inflow and their confluence by turns, until the bytes are used up */
     while (used < size - 150 && blocks < LIMIT_BLOCKS - 4) {
@@ -575,17 +587,17 @@ static void big_lists(int size)
         say_block();
         if (k % 2 == 0) {
             say("BA 1.5\nLU 0.5,0.1\n");
-            for (v = 0; v < 300 && used < size - 120; v += 10)
-                say_list("PI", 10, 1, 9999, 4);
+            for (v = 0; v + line <= LIMIT_NQ && used < size - 120; v += line)
+                say_list("PI", line, 1, 9999, 4, past);
             if (v == 0) say("PI\n");
             int units = 0;
-            for (v = 0; v < 150 && used < size - 120; v += 10, units++)
-                say_list("UI", 10, 1, 999, 2);
+            for (v = 0; v + line <= LIMIT_UNITS && used < size - 120; v += line, units++)
+                say_list("UI", line, 1, 999, 2, past);
             if (units == 0) say("UI\n");
         } else {
             int lines_done = 0;
-            for (v = 0; v < 300 && used < size - 120; v += 10, lines_done++)
-                say_list("QI", 10, 1, 99999, 2);
+            for (v = 0; v + line <= LIMIT_NQ && used < size - 120; v += line, lines_done++)
+                say_list("QI", line, 1, 99999, 2, past);
             if (lines_done == 0) say("QI\n");
         }
         blocks++;
@@ -650,10 +662,10 @@ static void big_blocks(int count, int nq, int units, int rain, int storms, int r
                 say("BA1\nLU,.95\n");
             }
             for (v = 0; v < rain; v += 10)
-                say_list("PI", rain - v < 10 ? rain - v : 10, 1, 2, 0);
+                say_list("PI", rain - v < 10 ? rain - v : 10, 1, 2, 0, 0);
             if (rain == 0) say("PI\n");
             for (v = 0; v < units; v += 10)
-                say_list("UI", units - v < 10 ? units - v : 10, 1, 3, 0);
+                say_list("UI", units - v < 10 ? units - v : 10, 1, 3, 0, 0);
             if (units == 0) say("UI\n");
             held++;
         }
@@ -683,7 +695,7 @@ static void big_routing(int count, int nq, int steps)
     say(t);
     say_block();
     for (v = 0; v < nq; v += 10)
-        say_list("QI", nq - v < 10 ? nq - v : 10, 1, 99999, 0);
+        say_list("QI", nq - v < 10 ? nq - v : 10, 1, 99999, 0, 0);
     for (i = 1; i < count; i++) {
         int a = 250 * steps * m;
         rx = between(0, 40);
@@ -791,8 +803,8 @@ int main(int argc, char **argv)
             return usage();
         for (i = 0; i < given; i++)
             a[i] = whole(argv[4 + i], 0, LIMIT_BYTES, "a size");
-        if (!strcmp(kind, "lists"))
-            big_lists(given > 0 ? a[0] : LIMIT_BYTES);
+        if (!strcmp(kind, "lists") || !strcmp(kind, "zeros"))
+            big_lists(given > 0 ? a[0] : LIMIT_BYTES, !strcmp(kind, "zeros"));
         else if (!strcmp(kind, "blocks") || !strcmp(kind, "storms") || ratios > 0) {
             int count = given > 0 ? a[0] : LIMIT_BLOCKS, nq = given > 1 ? a[1] : LIMIT_NQ;
             int units = given > 2 ? a[2] : LIMIT_UNITS, rain = given > 3 ? a[3] : nq < 10 ? nq : 10;

@@ -1,5 +1,5 @@
 /* Shared types of the deck writer.  All limits and records follow document 01
-   and document 02, CR 1 and CR 3 to CR 6. */
+   and document 02, CR 1 and CR 3 to CR 7. */
 #ifndef DECKS_H
 #define DECKS_H
 
@@ -109,6 +109,7 @@ typedef struct {
     int eol;                       /* 0 LF, 1 CR LF, 2 either */
     int sep;                       /* 0 comma, 1 blanks, 2 either */
     int vary;                      /* numbers written in an odd but lawful way, in a hundred */
+    int zeros;                     /* numbers with zeros at the end of their fraction, in a hundred */
     int pack;                      /* 0 ten values a line, 1 any number, 2 one */
     int pwide;                     /* lines filled out with blanks, in a hundred */
     int pzero;                     /* zeros in lists left blank, in a hundred */
@@ -133,6 +134,8 @@ int line_compose(Line *l, const Style *s);
 void line_text(Line *l, const char *text);
 void line_name(Line *l, const unsigned char *name, int n, int ptext);
 int number_write(char *out, int v, int places, int width, int vary);
+void number_zeros(char *text, int width);            /* zeros behind a number, or a bare point */
+void number_past(char *text, int places, int more);  /* so many zeros past its places */
 int text_random(unsigned char *out, int most);
 const char *tag_ident(int tag);
 int deck_bytes(const Deck *d, unsigned char *out);   /* length */

@@ -1,6 +1,7 @@
 /* Damages aimed at one refusal each (document 01, the table of refusals, and
-   document 02, CR 1, CR 3 and CR 6; 19 and 20 have a file of their own), blind
-   mutations, and decks that hardly are decks. */
+   document 02, CR 1, CR 3, CR 6 and CR 7; 19 and 20 have a file of their own,
+   and so have zeros at the end of numbers), blind mutations, and decks that
+   hardly are decks. */
 #include <stdio.h>
 #include <string.h>
 #include "decks_damage.h"
@@ -396,18 +397,19 @@ static int damage5(Deck *d, const Net *n, const Style *s)
 
 /* ---- 6: fields and names ---- */
 
+/* More places than the field has, and not by zeros at the end */
 static const struct { int tag, field; const char *text; } too_fine[] = {
-    { T_IT, 0, "60.0" }, { T_IT, 0, "1.00" }, { T_IT, 3, "4.0" }, { T_IT, 3, "12.00" }, { T_IT, 3, "0.0" },
-    { T_BA, 0, "1.500" }, { T_BA, 0, ".001" }, { T_BA, 0, "1.000" },
-    { T_PB, 0, ".00001" }, { T_PB, 0, "4.37000" }, { T_PB, 0, ".00000" }, { T_PB, 0, "1.00000" },
-    { T_PI, -1, "0.50000" }, { T_PI, -1, ".00001" }, { T_PI, -1, "1.00000" },
-    { T_LU, 0, ".10000" }, { T_LU, 1, "0.10000" }, { T_LU, 2, "0.000" }, { T_LU, 2, ".000" }, { T_LU, 0, ".00000" },
-    { T_UI, -1, "1.000" }, { T_UI, -1, "0.001" }, { T_QI, -1, "1.000" }, { T_QI, -1, ".125" }, { T_QI, -1, "0.000" },
-    { T_HC, 0, "2.0" }, { T_HC, 0, "2.00" }, { T_RM, 0, "1.0" }, { T_RM, 1, "1.000" }, { T_RM, 2, ".200" },
-    { T_RM, 2, "0.200" }, { T_RM, 2, ".000" },
-    { T_RS, 0, "1.0" }, { T_RS, 0, "1.00" }, { T_RS, 0, "0.0" }, { T_RS, 2, "0.0" }, { T_RS, 2, ".0" }, { T_RS, 2, "1.0" },
-    { T_SV, -1, "1.000" }, { T_SV, -1, ".000" }, { T_SV, -1, "0.001" }, { T_SQ, -1, "1.000" }, { T_SQ, -1, ".005" }, { T_SQ, -1, "0.000" },
-    { T_JR, -1, "1.000" }, { T_JR, -1, "0.005" }, { T_JR, -1, "9.995" }, { T_JR, -1, ".001" }
+    { T_IT, 0, "60.5" }, { T_IT, 0, "60.50" }, { T_IT, 0, "1.01" }, { T_IT, 3, "4.5" }, { T_IT, 3, "12.050" }, { T_IT, 3, "0.5" },
+    { T_JR, -1, "1.501" }, { T_JR, -1, "0.005" }, { T_JR, -1, "9.995" }, { T_JR, -1, "1.0010" },
+    { T_BA, 0, "1.501" }, { T_BA, 0, ".001" }, { T_BA, 0, "1.001" }, { T_BA, 0, "1.0010" },
+    { T_PB, 0, ".00001" }, { T_PB, 0, "4.37001" }, { T_PB, 0, ".10001" }, { T_PB, 0, ".00005" }, { T_PB, 0, "1.000010" },
+    { T_PI, -1, "0.50001" }, { T_PI, -1, ".00001" }, { T_PI, -1, ".000010" }, { T_PI, -1, "1.000050" },
+    { T_LU, 0, ".10001" }, { T_LU, 0, ".00001" }, { T_LU, 1, "0.10001" }, { T_LU, 1, "0.000010" }, { T_LU, 2, "0.001" }, { T_LU, 2, ".0010" },
+    { T_UI, -1, "1.001" }, { T_UI, -1, "0.001" }, { T_UI, -1, "1.0050" }, { T_QI, -1, "1.001" }, { T_QI, -1, ".125" }, { T_QI, -1, "0.0010" },
+    { T_HC, 0, "2.5" }, { T_HC, 0, "2.01" }, { T_HC, 0, "2.50" }, { T_RM, 0, "1.5" }, { T_RM, 0, "1.50" }, { T_RM, 0, "1.010" }, { T_RM, 1, "1.001" },
+    { T_RM, 1, "1.0010" }, { T_RM, 2, ".201" }, { T_RM, 2, "0.2001" }, { T_RM, 2, ".0010" },
+    { T_RS, 0, "1.5" }, { T_RS, 0, "1.01" }, { T_RS, 0, "1.50" }, { T_RS, 2, "0.5" }, { T_RS, 2, ".01" }, { T_RS, 2, ".50" },
+    { T_SV, -1, "1.001" }, { T_SV, -1, ".001" }, { T_SV, -1, "0.0010" }, { T_SQ, -1, "1.001" }, { T_SQ, -1, ".005" }, { T_SQ, -1, "1.0050" }
 };
 
 static const char *const misshapen[] = {
@@ -449,7 +451,7 @@ static int bad_ratios(Deck *d, const Style *s)
         "", "prec", "Prec", "FLOW", "PRECX", "PREC1", "PRE", "1", "1.00", "0", "PREC.", "RAIN", "CERP", "-PREC", "'PREC'"
     };
     static const char *const numbers[] = {
-        "1.500", "9.995", "9.999", "0.005", ".000", "X", "1X", "PREC", "1.5.0", "1,5", "0000000001", "1234567890", "0.000000001", "1-"
+        "1.501", "9.995", "9.999", "0.005", ".0010", "1.500000000", "X", "1X", "PREC", "1.5.0", "1,5", "0000000001", "1234567890", "0.000000001", "1-"
     };
     int at = ratio_line_of(d, s), i, k;
     if (at < 0)
@@ -488,7 +490,7 @@ static int bad_ratios(Deck *d, const Style *s)
 static int ratios_outside(Deck *d, const Style *s)
 {
     static const char *const numbers[] = {
-        "0", "0.00", "-0", "", "10", "10.00", "-1", "-.01", "-9.99", "99.99", "+10.", "999", "9999999.99", "999999999"
+        "0", "0.00", "0.000", "-0", "-0.000", "", "10", "10.00", "10.0000", "-1", "-.01", "-9.99", "99.99", "+10.", "999", "9999999.99", "999999999"
     };
     int at = ratio_line_of(d, s), k;
     if (at < 0)
@@ -507,17 +509,30 @@ static int ratios_outside(Deck *d, const Style *s)
     return set_field(l, s, k, numbers[rnd(COUNT(numbers))]);
 }
 
+static int too_many_places(Deck *d, const Style *s)
+{
+    int w = rnd(COUNT(too_fine)), at = find_tag(d, too_fine[w].tag), k = too_fine[w].field;
+    if (at < 0)
+        return 0;
+    Line *l = &d->l[at];
+    if (k < 0) k = l->nf > 0 ? rnd(l->nf) : rnd(10);
+    if (k == 0 && l->tag == T_JR) k = 1;
+    return set_field(l, s, k, too_fine[w].text);
+}
+
 static int damage6(Deck *d, const Style *s)
 {
     static const int data[] = { T_IT, T_BA, T_PB, T_PI, T_LU, T_UI, T_QI, T_HC, T_RM, T_RS, T_SV, T_SQ };
     static const int scant[] = { T_IT, T_BA, T_PB, T_PB, T_LU, T_HC, T_RM, T_RS, T_RS };
     int at, k, i;
     Line *l;
+    if (pct(45))
+        return pct(30) ? damage6_zeros(d, s) : too_many_places(d, s);
     if (pct(22))
         return bad_ratios(d, s);
     if (pct(15))
         return damage6_pond(d, s);
-    switch (rnd(8)) {
+    switch (rnd(6)) {
     case 0:
     case 1:                                        /* a misshapen number */
         at = find_tag(d, data[rnd(COUNT(data))]);
@@ -530,18 +545,7 @@ static int damage6(Deck *d, const Style *s)
         if (l->form == FIXED && pct(40))
             return set_field(l, s, k, misshapen_fixed[rnd(COUNT(misshapen_fixed))]);
         return set_field(l, s, k, misshapen[rnd(COUNT(misshapen))]);
-    case 2:
-    case 3: {                                      /* too many places */
-        int w = rnd(COUNT(too_fine));
-        at = find_tag(d, too_fine[w].tag);
-        if (at < 0) return 0;
-        l = &d->l[at];
-        k = too_fine[w].field;
-        if (k < 0) k = l->nf > 0 ? rnd(l->nf) : rnd(10);
-        if (k == 0 && l->tag == T_JR) k = 1;
-        return set_field(l, s, k, too_fine[w].text);
-    }
-    case 4:                                        /* a field that is not named */
+    case 2:                                        /* a field that is not named */
         at = find_tag(d, scant[rnd(COUNT(scant))]);
         if (at < 0) return 0;
         l = &d->l[at];
@@ -550,7 +554,7 @@ static int damage6(Deck *d, const Style *s)
         if (l->tag == T_PB && pct(30))             /* as if a storm had a name */
             return set_field(l, s, 1, pct(50) ? "TYPE2" : "STORM.10");
         return set_field(l, s, k, pct(40) ? "0" : pct(50) ? "1" : pct(50) ? "X" : ".");
-    case 5:                                        /* eleven fields */
+    case 3:                                        /* eleven fields */
         at = find_tag(d, data[rnd(COUNT(data))]);
         if (at < 0) return 0;
         l = &d->l[at];
@@ -615,6 +619,8 @@ static int damage7(Deck *d, const Style *s)
 {
     int w = rnd(COUNT(outside));
     int at = find_tag(d, outside[w].tag);
+    if (pct(45))
+        return damage7_zeros(d, s);
     if (pct(20))
         return ratios_outside(d, s);
     if (pct(35))
@@ -786,7 +792,7 @@ enum { LACKS_BA = 1, LACKS_LU = 2, LACKS_UI = 4, HAS_QI = 8, HAS_HC = 16, HAS_RM
 /* A line of a pattern without rain, or with the least of it at the end. */
 static void dry_line(Line *l, const Style *s, int most, int drop_at_end)
 {
-    static const char *const nothing[] = { "0", "0.0", "0.0000", ".0", "-0", "+0.", "00" };
+    static const char *const nothing[] = { "0", "0.0", "0.0000", ".0", "-0", "+0.", "00", ".00000", "-0.0" };
     int k, c = most < 1 ? 0 : between(0, most < 10 ? most : 10);
     if (drop_at_end && c == 0) c = 1;
     l->nf = c;
@@ -1349,7 +1355,9 @@ static const struct { const char *text; int n; } scraps[] = {
     S("*FREE\nIT1,,,1\nKKA\nQI\nZZ"), S("IT     1                       1\nKK     A\nQI     1\nZZ"), S("\0"), S("ZZ\0"), S("ZZ\n\0\xFF"),
     S("*FREE\nIT 60,,,4\nKK A\nHC 2\nZZ"), S("*FREE\nIT 60,,,4\nKK A\nRM 1,1.00,0.20\nZZ"), S("*FREE\nIT 60 0 0 4\nKK A\nQI 1 2 3 4 5\nZZ"),
     S("*FREE\nIT 60 4\nKK A\nQI 1\nZZ"), S("*FREE\nIT60,,,4\nKKA\nBA1\nPI\nLU\nUI\nZZ"), S("*FREE \nIT ,,,4\nKK A\nQI 1\nZZ"),
-    S("*FREE\nIT 60.,,,4.\nKK A\nQI 1\nZZ"), S("*FREE\nIT 60.0,,,4\nKK A\nQI 1\nZZ"), S("*FREE\nIT 60,,,4,,,,,,,,,,\nKK A\nQI ,,,1\nZZ"),
+    S("*FREE\nIT 60.,,,4.\nKK A\nQI 1\nZZ"), S("*FREE\nIT 60.0,,,4\nKK A\nQI 1\nZZ"), S("*FREE\nIT 60.5,,,4\nKK A\nQI 1\nZZ"),
+    S("*FREE\nIT 60.000,,,4.0\nKK A\nQI 1.500,.0,-0.0,0.000\nZZ"), S("*FREE\nIT 60,,,4\nKK A\nQI 1.50000000\nZZ"), S("*FREE\nIT 60,,,4\nKK A\nQI 1.500000000\nZZ"),
+    S("*FREE\nIT 60,,,4\nKK A\nBA 1.001\nQI 1\nZZ"), S("*FREE\nIT 60,,,4\nKK A\nBA 10.0\nQI 100.000,00.50\nZZ"), S("*FREE\nIT 60,,,4,,,,,,,,,,\nKK A\nQI ,,,1\nZZ"),
     S("*FREE\nIT 60,,,4\nKK A\nQI ,,,,1\nZZ"), S("*FREE\nIT 60,,,4\nKK A\nQI ,,,,\nZZ"), S("*FREE\nIT 60,,,4\nKK A\nQI , , ,1\nZZ"),
     S("*FREE\nIT 60,,,4\nKK A\nQI 1 , , 2\nZZ"), S("*FREE\nIT 60,,,4\nKK A\nQI 1 ,, 2\nZZ"), S("*FREE\nIT 60,,,3\nKK A\nQI 1 , 2 , 3\nZZ"),
     S("*FREE\nIT 60,,,4\nKK A\nRM 1,1,.2\nKK B\nQI 1\nZZ"), S("IT    60               4\nKK A\nQI 1\nZZ"), S("ID\nKK A\nIT 60,,,4\n"),

@@ -28,6 +28,10 @@ int storm_block(Deck *d, int at, const Net *n, const Style *s, const char *p1, c
                 const char *u2);
 int gate(Deck *d, int at, const Net *n, const Style *s, int ratio);
 
+/* ---- zeros at the end of numbers ---- */
+int damage6_zeros(Deck *d, const Style *s);
+int damage7_zeros(Deck *d, const Style *s);
+
 /* ---- ponds ---- */
 int first_pond(Deck *d, int at, const Net *n, const Style *s);
 int damage6_pond(Deck *d, const Style *s);

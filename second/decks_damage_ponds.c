@@ -127,7 +127,7 @@ static int blocks_of(const Deck *d)
 
 int damage6_pond(Deck *d, const Style *s)
 {
-    static const char *const bad[] = { "1.0", "0.0", "X", "1-", "STOR", ".", "1.2", "0000000001", "--1", "1E0" };
+    static const char *const bad[] = { "1.5", "0.5", "X", "1-", "STOR", ".", "1.2", "0000000001", "--1", "1E0", "0.10" };
     int at = find_tag(d, T_RS);
     if (at < 0)
         return 0;
@@ -143,13 +143,14 @@ int damage6_pond(Deck *d, const Style *s)
 
 int damage7_pond(Deck *d, const Style *s)
 {
-    static const char *const steps[] = { "0", "2", "-1", "+10", "50", "-0", "999999" };
-    static const char *const start[] = { "1", "-1", "+2.", "100", "-100" };
+    static const char *const steps[] = { "0", "2", "-1", "+10", "50", "-0", "999999", "0.0", "2.000", "10.0" };
+    static const char *const start[] = { "1", "-1", "+2.", "100", "-100", "1.0", "-1.00", "10.00" };
     static const char *const words[] = { "STO", "STORE", "STOR1", "STORAGE", "FLOW", "ELEV", "1", "0", "STOR.", "-STOR", "ROTS", "'STOR'", "STORSTOR" };
     static const char *const small[] = { "stor", "Stor", "STOr", "sTOR" };
     static const char *const split[] = { "ST OR", "S TOR", "STOR 0", "STOR  R" };
     static const char *const large[] = { "RESERVOIR", "STORAGEVOLUME", "STORSTORS" };
-    static const char *const storage[] = { "100000", "-.01", "-1", "999999" }, *const outflow[] = { "100001", "-.01", "-5", "999999" };
+    static const char *const storage[] = { "100000", "-.01", "-1", "999999", "-.0100" };
+    static const char *const outflow[] = { "100001", "-.01", "-5", "999999", "-5.000" };
     int at = find_tag(d, T_RS), list = find_tag(d, T_SV), other = find_tag(d, T_SQ), k;
     if (at < 0 || list < 0 || other < 0)
         return 0;
@@ -416,16 +417,16 @@ static int damage20_ratios(Deck *d, const Net *n, const Style *s)
         if (lines > 0) plain_record(insert(d, zz + lines, T_KK), s, n);
         return lines > 0;
     }
-    switch (rnd(6)) {
+    switch (rnd(7)) {
     case 0:                                        /* closed by ZZ: 15 under the others */
         return pond_gate(d, zz, n, s, ratio) > 0;
-    case 1:                                        /* 13 under the greatest at an earlier line, or under this one at a later */
+    case 1: case 2:                                /* 13 under the greatest at an earlier line, or under this one at a later */
         lines = ratio > 1 ? pond_gate(d, at, n, s, ratio) : 0;
         if (lines == 0) return 0;
         if (pct(40)) gate(d, at, n, s, top_ratio(n));
         else gate(d, at + lines, n, s, ratio);
         return 1;
-    case 2:                                        /* refused by another fault behind it, which the others come to */
+    case 3:                                        /* refused by another fault behind it, which the others come to */
         lines = pond_gate(d, at, n, s, ratio);
         if (lines == 0) return 0;
         line_text(insert(d, at + lines + 1, T_OTHER), pct(50) ? "XX" : "RS 2,STOR");

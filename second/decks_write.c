@@ -27,12 +27,14 @@ void style_random(Style *s)
     s->pzero = pct(50) ? 20 : 80;
     s->ptext = pct(50) ? 5 : 50;
     s->pmix = pct(60) ? 0 : 40;
+    s->zeros = pct(50) ? 0 : pct(50) ? 10 : 60;
 }
 
 /* ---- numbers ---- */
 
 /* v counted in the last place; as written: not over `places` places, not over
-   nine digits, not over `width` bytes.  0 when it does not fit. */
+   nine digits, not over `width` bytes.  0 when it does not fit.  Zeros past its
+   places, which are lawful too, number_zeros puts behind it. */
 int number_write(char *out, int v, int places, int width, int vary)
 {
     int pass;
@@ -288,6 +290,17 @@ static int field_width(const Line *l, int k)
     return l->form == FREE ? 13 : k == 0 ? 6 : 8;
 }
 
+/* A number in a field of a line; 0 when it does not fit. */
+static int field_write(Line *l, int k, int v, int places, int vary, int zeros)
+{
+    int width = field_width(l, k);
+    if (!number_write(l->f[k], v, places, width, vary))
+        return 0;
+    if (pct(zeros))
+        number_zeros(l->f[k], width);
+    return 1;
+}
+
 /* One record of up to four fields; a value of -1 leaves the field blank, -2
    has its text already. */
 static void record(Writer *w, int tag, int nf, const int *v, const int *places, char given[][16])
@@ -302,7 +315,7 @@ static void record(Writer *w, int tag, int nf, const int *v, const int *places, 
             else if (v[k] == -2)
                 strcpy(l->f[k], given[k]);
             else
-                ok = ok && number_write(l->f[k], v[k], places[k], field_width(l, k), w->s->vary);
+                ok = ok && field_write(l, k, v[k], places[k], w->s->vary, w->s->zeros);
         }
         if (ok && line_compose(l, w->s))
             return;
@@ -314,18 +327,18 @@ static void record(Writer *w, int tag, int nf, const int *v, const int *places, 
 /* The ratios, all on one line: where they do not fit, in a plainer manner. */
 static void ratio_line(Writer *w, const Net *n)
 {
-    int vary = w->s->vary, k;
+    int vary = w->s->vary, zeros = w->s->zeros, k;
     for (;;) {
         Line *l = add(w, T_JR);
         int ok = 1;
         strcpy(l->f[0], "PREC");
         for (k = 0; k < n->njr; k++)
-            ok = ok && number_write(l->f[k + 1], n->jr[k], 2, field_width(l, k + 1), vary);
+            ok = ok && field_write(l, k + 1, n->jr[k], 2, vary, zeros);
         l->nf = n->njr + 1;
         if (ok && line_compose(l, w->s))
             return;
         w->d->nl--;
-        vary = 0;
+        vary = zeros = 0;
     }
 }
 
@@ -345,7 +358,7 @@ static void list_line(Writer *w, int tag, const int *v, int n, int *pos, int pla
             if (x == 0 && k + 1 < c && pct(w->s->pzero))
                 l->f[k][0] = 0;
             else
-                ok = number_write(l->f[k], x, places, field_width(l, k), w->s->vary);
+                ok = field_write(l, k, x, places, w->s->vary, w->s->zeros);
         }
         if (ok && line_compose(l, w->s)) {
             *pos += c;
