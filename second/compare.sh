@@ -4,10 +4,11 @@
 # By default 20,000 decks of all sorts, 2,000 cases with rooms of all sizes, 4,000 files of records to move, 2,000 decks
 # with a block and a ratio to make a sheet of, 2,000 pairs of decks that draw one network (which must also answer as
 # such), and a few decks, one at a time, on both sides of 60,000 bytes, one of them with the most blocks and ratios that
-# there can be, one with the most ponds.
+# there can be, one with the most ponds, one with zeros past the places of every value of its lists.
 # Fails too when a refusal is missing: one that depends on rooms in the cases, any other in the bundle, one of the mover
-# in the moves, any but that of short work words in the sheets; and when the bundle lacks an edge or a fault of ponds or does
-# not tell a wrong rule of ponds from the right one.
+# in the moves, any but that of short work words in the sheets; when the bundle lacks an edge or a fault of ponds, or a number
+# with zeros past its places or refused with them, or does not tell a wrong rule of either from the right one; and when the
+# pairs have none with such zeros in one deck alone.
 # The last line is 'N passed, M failed', where each deck, case, file, sheet and pair counts as one; the exit status
 # agrees with it.
 #
@@ -126,17 +127,25 @@ both() {
     "$second" ${2:+"$2"} <"$work/decks" >"$work/second" || failed=$((failed + 1))
 }
 
+# counted COUNTER [WORD]: what a counter asks of $work/decks is there
+counted() {
+    counter=$1
+    shift
+    if "$root/target/second/$counter" "$@" <"$work/decks" >"$work/said"; then
+        passed=$((passed + 1))
+    else
+        failed=$((failed + 1))
+        grep ': MISSING$' "$work/said"
+    fi
+}
+
 # ---- bundle, cases, moves, sheets, pairs
 
 "$decks" bundle "$seed" "$bundle" >"$work/decks" || die "the deck writer failed"
 both bundle --bundle
 compare bundle "$bundle" "$(deck_refusals)"
-if "$root/target/second/ponds" <"$work/decks" >"$work/said"; then
-    passed=$((passed + 1))
-else
-    failed=$((failed + 1))
-    grep ': MISSING$' "$work/said"
-fi
+counted ponds
+counted zeros
 
 "$decks" cases "$seed" "$cases" >"$work/decks" || die "the deck writer failed"
 both rooms --cases
@@ -162,6 +171,7 @@ else
     passed=$((passed + pairs - violated))
     failed=$((failed + violated))
 fi
+counted zeros --pairs
 
 # ---- one at a time
 
@@ -183,6 +193,8 @@ for bytes in 59999 60000 60001 65536 65537 200000; do single "$bytes"; done
 "$decks" big "$seed" ratios >"$work/decks" || die "the deck writer failed"
 for bytes in 60000 60001; do single "$bytes"; done
 "$decks" big "$seed" ponds >"$work/decks" || die "the deck writer failed"
+single 60000
+"$decks" big "$seed" zeros >"$work/decks" || die "the deck writer failed"
 single 60000
 : >"$work/decks"
 single 0

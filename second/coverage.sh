@@ -11,7 +11,10 @@
 # ratios from the right one, when none of its refused decks depends on the first
 # or on the last ratio being looked at, when they lack an edge of ponds or a
 # fault of theirs or do not tell a wrong rule of ponds from the right one, when
-# no pair has ponds, when the moves lack a sort of file or
+# they lack a field or a number with zeros past its places, a number refused for
+# what it is with zeros, or do not tell a wrong rule of zeros from the right one,
+# when no pair has ponds or none has such zeros in one deck alone, when the
+# moves lack a sort of file or
 # room, or faults beside one another, or do not tell a wrong rule of the mover
 # from the right one, when the cases of the sheet lack an edge or do not tell a
 # wrong rule from the right one, when a sheet is not the one that its counter
@@ -85,6 +88,7 @@ check count bundle "$(deck_refusals)" < "$work/out"
 check "$root/target/second/losses" < "$work/decks"
 check "$root/target/second/ratios" < "$work/decks"
 check "$root/target/second/ponds" < "$work/decks"
+check "$root/target/second/zeros" < "$work/decks"
 
 "$decks" cases "$seed" "$cases" > "$work/decks"
 "$hec1" --cases < "$work/decks" > "$work/out" || failed=$((failed + 1))
@@ -112,9 +116,10 @@ check count pairs "11" < "$work/out"
 check "$root/target/second/check-pairs" < "$work/out" > "$work/said"
 cat "$work/said"
 check grep -q 'with ponds [1-9]' "$work/said"
+check "$root/target/second/zeros" --pairs < "$work/decks"
 
 # the long decks that are written for timing
-for kind in lists blocks storms ratios routing ponds; do
+for kind in lists zeros blocks storms ratios routing ponds; do
     "$decks" big "$seed" "$kind" | "$hec1" > "$work/out" || failed=$((failed + 1))
     echo "long     $kind: $(tail -n 1 "$work/out")"
     check grep -q '^END ' "$work/out"

@@ -1,7 +1,7 @@
 #!/usr/bin/env bash
 # Self-test of the second program.  Builds it and the fuzz driver with the
 # address and undefined-behaviour sanitizers, runs small decks against outcomes
-# worked out by hand from document 01 and document 02, CR 1 to CR 6, then the
+# worked out by hand from document 01 and document 02, CR 1 to CR 7, then the
 # fuzz.  The last line counts.
 #
 # Decks and expected texts are written with printf's escapes (\n, \r, \xHH).
@@ -15,6 +15,7 @@ ratios=$out/ratios-checked
 moves=$out/moves-checked
 sheets=$out/sheets-checked
 ponds=$out/ponds-checked
+zeros_counter=$out/zeros-checked
 decks=$out/decks-checked
 mkdir -p "$out"
 scratch=$(mktemp -d) || exit 1
@@ -35,9 +36,11 @@ build "$fuzz" fuzz.c engine.c cards.c pond.c mover.c sheet.c
 build "$losses" losses.c cards.c pond.c bundle.c
 build "$ratios" ratios.c cards.c pond.c bundle.c
 build "$ponds" ponds.c cards.c bundle.c
+build "$zeros_counter" zeros.c pond.c bundle.c
 build "$moves" moves.c mover.c bundle.c
 build "$sheets" sheets.c cards.c pond.c bundle.c
-build "$decks" decks.c decks_net.c decks_ponds.c decks_write.c decks_damage.c decks_damage_ponds.c decks_moves.c decks_sheets.c
+build "$decks" decks.c decks_net.c decks_ponds.c decks_write.c decks_damage.c decks_damage_ponds.c decks_moves.c decks_sheets.c \
+    decks_zeros.c
 
 # Nothing is looked for that was not freed: each run ends at once, and on some
 # machines the search takes seconds a run.
@@ -150,7 +153,8 @@ flows '7 7 7 7' "${seven}KK B\nRM 50,1.00,0.20\nZZ\n"               # P7
 flows '420000000 420000000 420000000' '*FREE\nIT 60,,,3\nKK A\nQI 7,7,7\nKK B\nRM 1,1,.2\nZZ\n'
 one='A 2 0.00 1.00 1 60000000\nEND 1\n'
 lists "$one" '*FREE\nIT 60.,,,4\nKK A\nQI 1\nZZ\n'                  # P8
-refused 6 2 '*FREE\nIT 60.0,,,4\nKK A\nQI 1\nZZ\n'
+lists "$one" '*FREE\nIT 60.0,,,4\nKK A\nQI 1\nZZ\n'
+refused 6 2 '*FREE\nIT 60.5,,,4\nKK A\nQI 1\nZZ\n'
 rain='*FREE\nIT 60,,,4\nKK A\nBA 1\nLU 0,0\nUI 0.01\n'              # 6 lines
 flows '600000 0 1200000 0' "${rain}PI 1,,2\nZZ\n"                   # P9
 refused 8 7 '*FREE\nIT 60,,,2\nKK A\nBA 1\nLU 0,0\nUI 0.01\nPI 1,,2\nZZ\n'
@@ -317,7 +321,7 @@ refused 6 1 'IT x\nIT\n'                            # the first stays the first
 # ---- 6: fields ----------------------------------------------------------
 
 area="${free}KK A\nQI 1\n"                          # 4 lines; BA comes fifth
-for value in . + - +. -. 1.2.3 ++1 +-1 1- 1+ 1e3 x 1x x1 1.234 0.000 .001 \
+for value in . + - +. -. 1.2.3 ++1 +-1 1- 1+ 1e3 x 1x x1 1.234 0.001 .001 \
     0000000001 0000000.001 00000001.50 '1 2' '1,2' '1,0' '1,,0' ',1' '1,,,,,,,,,0' \
     '1,,,,,,,,,,0' '1;' '1/2' '#' '"1"' '1..' '..1' '1.-' '.+1' 9999999999; do
     refused 6 5 "${area}BA $value\nZZ\n"
@@ -341,7 +345,7 @@ refused 6 2 '*FREE\nIT 60,,,4,1\n'
 refused 6 2 '*FREE\nIT 60,,,4,0\n'
 refused 6 2 '*FREE\nIT 60,,,4,,,,,,0\n'
 refused 6 2 '*FREE\nIT 60,,,4,,,,,,,0\n'
-refused 6 2 '*FREE\nIT 60,,,4.0\n'
+refused 6 2 '*FREE\nIT 60,,,4.5\n'
 refused 6 2 '*FREE\nIT 0,,,x\n'
 refused 6 2 '*FREE\nIT x,,,0\n'
 refused 6 2 '*FREE\nIT 0,,,301,x\n'                 # 6 before 7
@@ -355,14 +359,14 @@ refused 6 4 "${free}KK A\nLU 0,0,0,0\n"
 refused 6 4 "${free}KK A\nLU 0,0,,0\n"
 refused 6 4 "${free}KK A\nLU 0.00001\n"
 refused 6 4 "${free}KK A\nLU 0,0.00001\n"
-refused 6 4 "${free}KK A\nLU 0,0,0.000\n"
+refused 6 4 "${free}KK A\nLU 0,0,0.001\n"
 refused 6 4 "${free}KK A\nLU 21,21,1,x\n"
-refused 6 4 "${free}KK A\nHC 2.0\n"
+refused 6 4 "${free}KK A\nHC 2.5\n"
 refused 6 4 "${free}KK A\nHC 2,2\n"
 refused 6 4 "${free}KK A\nHC 9 9\n"
-refused 6 4 "${free}KK A\nRM 1.0,1,0\n"
-refused 6 4 "${free}KK A\nRM 1,1.000,0\n"
-refused 6 4 "${free}KK A\nRM 1,1,0.000\n"
+refused 6 4 "${free}KK A\nRM 1.5,1,0\n"
+refused 6 4 "${free}KK A\nRM 1,1.001,0\n"
+refused 6 4 "${free}KK A\nRM 1,1,0.001\n"
 refused 6 4 "${free}KK A\nRM 1,1,0,0\n"
 refused 6 4 "${free}KK A\nRM 0,0,9,z\n"
 refused 6 4 "${free}KK A\nPI 0.00001\n"
@@ -816,7 +820,7 @@ for value in 1 0 '' x 101 -1 1,1 0.00000; do
 done
 refused 5 8 "${free}KK A\nPB 1\nBA 1\nKM\n*FREE\nPB 2\nZZ\n"
 refused 5 5 "${free}KK A\nPB 1\nPB 2\nQI 1\nZZ\n"           # even where PB makes no set
-for value in x . + 1.2.3 1- 1e2 .00001 1.00000 0.00000 0000000001 1,0 1,1 '1 2' ,0 ,1 1,TYPE2 ,TYPE2 \
+for value in x . + 1.2.3 1- 1e2 .00001 1.00001 0.000010 0000000001 1,0 1,1 '1 2' ,0 ,1 1,TYPE2 ,TYPE2 \
     1,,0 1,,,,,,,,,0 1,,,,,,,,,,0 101,0 -1,x 101,TYPE2; do
     refused 6 5 "${free}KK A\nBA 1\nPB $value\nZZ\n"
 done
@@ -1286,8 +1290,8 @@ refused 6 2 "${fix_jr}JR PREC,1.00\n$fix_a"
 refused 6 2 "${fix_jr}JR PR EC1.00\n$fix_a"
 refused 6 2 "${fix_jr}JR     PREC 1.00\n$fix_a"     # PR, EC 1.00
 # ratios that are none (6)
-for fields in 1.000 0.005 9.995 9.999 .000 x 1x 1.2.3 . - + 1- 1,x x,1 0000000001 1234567890 000000000.1 \
-    1,PREC PREC,1 1,2,3,4,5,6,7,8,9,10 1,2,3,4,5,6,7,8,9,0 ,,,,,,,,,1 0,x 10,1.000 x,0 -1,x ,x 1,,x; do
+for fields in 1.001 0.005 9.995 9.999 .001 x 1x 1.2.3 . - + 1- 1,x x,1 0000000001 1234567890 000000000.1 \
+    1,PREC PREC,1 1,2,3,4,5,6,7,8,9,10 1,2,3,4,5,6,7,8,9,0 ,,,,,,,,,1 0,x 10,1.001 x,0 -1,x ,x 1,,x; do
     refused 6 3 "$(jr "PREC,$fields")"
 done
 refused 6 2 "$fix_jr$(fixed JR PREC '1 5')\n$fix_a"
@@ -2018,8 +2022,8 @@ refused 5 6 "${free}KK P\nRS 1,STOR\nHC 2\nRS 1,STOR\nZZ\n"     # even where RS 
 rs() { printf '%s%sKK P\\nRS %s\\nSV 0,1\\nSQ 0,1\\nZZ\\n' "$free" "$inflow" "$1"; }
 lake_list="${one_a}P 5 0.00 0.04 2 6590959\nEND 2\n"
 for fields in 1,STOR 1,STOR,0 1,STOR,-0 +1.,STOR,0. 000000001,STOR,000000000; do lists "$lake_list" "$(rs "$fields")"; done
-for fields in 1,STOR,. 1.0,STOR 1.00,STOR,0 x,STOR 1-,STOR ,STOR,x 1,STOR,0.0 1,STOR,.0 1,STOR,x 1,STOR,- 0000000001,STOR 1,STOR,0000000000 \
-    1,STOR,0,0 1,STOR,0,1 1,STOR,,0 1,STOR,,,x 1,STOR,,,,,,,,0 1,STOR,,,,,,,,,0 STOR,1 STOR 1.0,FLOW x,,1 2,FLOW,x 0,STOR,0,0 1,,0,0 \
+for fields in 1,STOR,. 1.5,STOR 1.05,STOR,0 x,STOR 1-,STOR ,STOR,x 1,STOR,0.5 1,STOR,.5 1,STOR,x 1,STOR,- 0000000001,STOR 1,STOR,0000000000 \
+    1,STOR,0,0 1,STOR,0,1 1,STOR,,0 1,STOR,,,x 1,STOR,,,,,,,,0 1,STOR,,,,,,,,,0 STOR,1 STOR 1.5,FLOW x,,1 2,FLOW,x 0,STOR,0,0 1,,0,0 \
     1,STOR,1,0 '1 ST OR' '1 STOR R' 1,S,T,O,R; do
     refused 6 6 "$(rs "$fields")"
 done
@@ -2034,7 +2038,7 @@ for line in "$(fixed RS 1 'ST OR')" "$(fixed RS 1 'STOR 0')" "$(fixed RS 1 STOR,
     "$(fixed RS '' STOR)" "$(fixed RS 1 STOR 1)" RS "$(fixed RS 1 STORSTOR)"; do
     refused 7 7 "$fix_rs$line\nZZ\n"
 done
-for line in "$(fixed RS 1,STOR)" "$(fixed RS 1 STOR 0.0)" "$(fixed RS '1 1' STOR)" "$(fixed RS 1 STOR 0 0)" "$(fixed RS 1 STOR '' '' '' '' '' '' '' 0)" \
+for line in "$(fixed RS 1,STOR)" "$(fixed RS 1 STOR 0.5)" "$(fixed RS '1 1' STOR)" "$(fixed RS 1 STOR 0 0)" "$(fixed RS 1 STOR '' '' '' '' '' '' '' 0)" \
     "$(fixed RS 1 '' STOR)" 'RS 1 STOR' 'RS     1   STORAGE OF A LAKE'; do
     refused 6 7 "$fix_rs$line\nZZ\n"
 done
@@ -2042,11 +2046,11 @@ done
 table() { pool 60 "$1" "$2" 0; }
 for value in 99999.99 000099999. .01 +1; do flows '0 0 0 0' "$(table "0,$value" 0,-0)"; done
 for value in 100000 100000.00 -.01 -1 999999999 1,-1; do refused 7 7 "$(table "0,$value" 0,1)"; done
-for value in 1.000 x 1- .001 0.000 0000000001 . 1,x 1,2,3,4,5,6,7,8,9,10,11; do refused 6 7 "$(table "0,$value" 0,1)"; done
+for value in 1.001 x 1- .001 0.0010 0000000001 . 1,x 1,2,3,4,5,6,7,8,9,10,11; do refused 6 7 "$(table "0,$value" 0,1)"; done
 flows '0 0 0 0' "$(table 0,99999.99 0,100000)"
 flows '0 0 0 0' "$(table 0,99999.99 0,100000.00)"
 for value in 100000.01 100001 -.01 -1 999999999 1,-1; do refused 7 8 "$(table 0,1 "0,$value")"; done
-for value in 1.000 x 1- .005 0.000 0000000001 . 1,x 1,2,3,4,5,6,7,8,9,10,11; do refused 6 8 "$(table 0,1 "0,$value")"; done
+for value in 1.001 x 1- .005 0.0050 0000000001 . 1,x 1,2,3,4,5,6,7,8,9,10,11; do refused 6 8 "$(table 0,1 "0,$value")"; done
 
 # 8: twenty values of each, on two lines and on twenty
 ten=0,1,2,3,4,5,6,7,8,9
@@ -2278,6 +2282,115 @@ done <"$scratch/pools"
 check 'as many ponds as were asked for' $((pools + 1)) "$k"
 check 'some of them too small' yes "$([ "$over" -gt 10 ] && [ "$over" -lt $((pools / 2)) ] && echo yes)"
 
+# ---- Trailing zeros (document 02, CR 7) --------------------------------------
+
+# unit_deck VALUE: an inch of rain on one unit ordinate, UI on line 7; each
+# hundredth of it makes 600,000 flow units
+unit_deck() { printf '%sKK A\\nBA 1\\nPI 1\\nLU\\nUI %s\\nZZ\\n' "$free" "$1"; }
+# reads UNITS VALUE...: UI is read as so many flow units
+reads() {
+    local units=$1 value
+    shift
+    for value in "$@"; do flows "$units 0 0 0" "$(unit_deck "$value")"; done
+}
+reads 90000000 1.5 1.50 1.500 1.5000 1.50000000 +1.500 01.500 0001.50000 +000001.500 00000001.5
+reads 30000000 .5 .50 .500 0.500 00.50 00.5000000 .500000000 +.500
+reads 63000000 1.05 1.050 1.0500 1.05000000         # a zero inside stays
+reads 60600000 1.01 1.010 1.01000000
+reads 600000 .01 .010 0.010 .010000000
+reads 300000000 5 5. 5.0 5.00 5.000 5.00000000 05.0
+# zeros before the point are digits like others
+reads 600000000 10 10. 10.0 10.000 10.0000000 010.00
+reads 6000000000 100 100. 100.0 100.000 100.000000 000100.00
+reads 630000000 10.5 10.50 10.500
+reads 603000000 10.05 10.0500000
+reads 5999999400000 99999.99 99999.990 99999.9900
+reads 0 0 0. 0.0 0.00 0.000 0.00000000 .0 .00 .000 .000000000 000.000 -0 -0. -0.0 -0.000 -.0 -.000000000 +0.000 +.0
+# nine digits as written, zeros and all
+for value in 1.500000000 01.50000000 0000001.500 150.0000000 5.000000000 00.00000000 .0000000000 0.000000000 -0.000000000 -.0000000000 \
+    1.50000000000000000000 00000000.50 1000000000. 100000000.0; do
+    refused 6 7 "$(unit_deck "$value")"
+done
+# places that are left, whatever stands before and behind them
+for value in 1.501 1.001 1.0010 1.00100 1.0000001 .001 .0010 0.00100000 1.5001 1.50010 .00000001 100000.001 -0.001 -1.0010; do
+    refused 6 7 "$(unit_deck "$value")"
+done
+# zeros make no number of what is none
+for value in . +. -. 1.0.0 1..0 .0. 0.0x x.0 1.0- -+0.0 --0.0 1.0e0 1.0+ 1,0.0.0 '1.00 .'; do refused 6 7 "$(unit_deck "$value")"; done
+for value in 100000.000 -.010 -1.000 -0.0100 999999.000; do refused 7 7 "$(unit_deck "$value")"; done
+
+# every record: read, places left (6), outside the limits (7)
+for value in 60.0 60.000 60.0000000 060.0 +60.00 1.0 1440.0 1440.00000; do lists "$one" "$(it "$value,,,4")"; done
+for value in 60.5 60.50 60.05 60.0001 60.10 .5 1440.01 60.00000000 -0.5; do refused 6 2 "$(it "$value,,,4")"; done
+for value in 0.0 .0 -0.0 1441.0 1441.0000 -60.0; do refused 7 2 "$(it "$value,,,4")"; done
+for value in 4.0 4.000 4.00000000 300.0 300.000000 1.0 +04.0; do lists "$one" "$(it "60,,,$value")"; done
+for value in 4.5 4.50 4.01 4.0010 .5 4.000000000; do refused 6 2 "$(it "60,,,$value")"; done
+for value in 0.0 .000 301.0 301.000 -4.0; do refused 7 2 "$(it "60,,,$value")"; done
+lists "$one" "$(it 60.0,0.0.0,1.5.,4.0)"            # fields 2 and 3 are not read
+takes PREC,1.500 1.50
+takes PREC,1.50000000,1.,9.990,0.0100,.010,+1.5000 1.50 1.00 9.99 0.01 0.01 1.50
+for fields in 1.501 1.001 1.0010 9.9901 .001 1.500000000 1.500,1.501; do refused 6 3 "$(jr "PREC,$fields")"; done
+for fields in 10.000 9.9900,0.000 .0 .000 -0.0 -1.500 1.500,10.0000; do refused 7 3 "$(jr "PREC,$fields")"; done
+for value in 1.500 1.5000000 01.500; do lists "$(ba 1.50)" "${area}BA $value\nZZ\n"; done
+for value in .010 0.01000000; do lists "$(ba 0.01)" "${area}BA $value\nZZ\n"; done
+for value in 9999.990 9999.99000; do lists "$(ba 9999.99)" "${area}BA $value\nZZ\n"; done
+for value in 1.501 .001 .0010 1.0010 1.500000000 9999.991; do refused 6 5 "${area}BA $value\nZZ\n"; done
+for value in 0.000 .0 .000 -0.000 -.010 10000.000 -1.500; do refused 7 5 "${area}BA $value\nZZ\n"; done
+for value in 100.00000 100.000000 +100.00000 0100.00000; do flows '6000000000 0 0 0' "$(storm "$value" 1)"; done
+flows '5999994000 0 0 0' "$(storm 99.9999000 1)"
+for value in 100.00001 .00001 .000010 4.3700010 100.0000000; do refused 6 5 "$(storm "$value" 1)"; done
+for value in 100.00010 100.000100 101.00000 -.00010 -1.00000; do refused 7 5 "$(storm "$value" 1)"; done
+drops_deck="${free}KK A\nBA 1\nLU\nUI 0.0100\n"     # 6 lines
+for value in 20.0000000 20.00000 +20.000000 020.00000; do flows '12000000 0 0 0' "${drops_deck}PI $value\nZZ\n"; done
+flows '60 600 6060 0' "${drops_deck}PI .00010,0.0010000,.010100,-0.00000\nZZ\n"
+for value in 20.00001 .00001 .000010 0.00010001 20.00000000; do refused 6 7 "${drops_deck}PI $value\nZZ\n"; done
+for value in 20.00010 20.000100 21.00000 -.000100 -1.00000; do refused 7 7 "${drops_deck}PI $value\nZZ\n"; done
+wet_deck="${free}KK A\nBA 1\nPI 20\nUI 0.01\n"      # 6 lines
+for value in 20.00000,0 0,20.00000 20.0000000,.00000,.000; do flows '0 0 0 0' "${wet_deck}LU $value\nZZ\n"; done
+for value in 19.99990,0 0.0,19.999900 19.9999000,-0.0,0.000 19.9999,,-0.0000; do flows '60 0 0 0' "${wet_deck}LU $value\nZZ\n"; done
+for value in 19.99991 0,19.99999 0,0,0.001 0,0,.0010 0,0,0.000000000 .00001; do refused 6 7 "${wet_deck}LU $value\nZZ\n"; done
+for value in 20.00010 0,20.000100 -1.00000 0,-.00010 0,0,0.010 0,0,1.000 0,0,-.0100; do refused 7 7 "${wet_deck}LU $value\nZZ\n"; done
+flows '0 6000000000000 600000 90000000' "${free}KK A\nQI -0.000,100000.000,0.0100,1.500\nZZ\n"
+for value in 100000.001 1.001 .125 1.500,1.501 100000.0000; do refused 6 4 "${free}KK A\nQI $value\nZZ\n"; done
+for value in 100000.010 -.010 1.500,-1.000 100001.000; do refused 7 4 "${free}KK A\nQI $value\nZZ\n"; done
+refused 6 4 "${free}KK A\nQI 100000.010,1.001,1.000,1.000,1.000\nZZ\n"      # 6, then 7, then 8
+refused 7 4 "${free}KK A\nQI 100000.010,1.000,1.000,1.000,1.000\nZZ\n"
+refused 8 4 "${free}KK A\nQI 100000.000,1.000,1.000,1.000,1.000\nZZ\n"
+pair_deck="$free$inflow${inflow}KK C\n"             # 7 lines
+for value in 2.0 2.000 02.0 2.00000000; do flows '120000000 0 0 0' "${pair_deck}HC $value\nZZ\n"; done
+for value in 2.5 2.50 2.05 2.000000000; do refused 6 8 "${pair_deck}HC $value\nZZ\n"; done
+for value in 1.0 6.0 0.0 .0 -2.0; do refused 7 8 "${pair_deck}HC $value\nZZ\n"; done
+reach_deck='*FREE\nIT 60,,,4\nKK A\nQI 1,2,3,4\nKK B\n'     # 5 lines
+for value in 1.0,1.000,0.500 1.000,1.0000000,.5000 01.0,01.000,00.50; do
+    flows '60000000 60000000 120000000 180000000' "${reach_deck}RM $value\nZZ\n"
+done
+for value in 1.5,1,.2 1.50,1,.2 1,1.001,.2 1,1.0010,.2 1,1,.201 1,1,.0010 1.000000000,1,.2; do refused 6 6 "${reach_deck}RM $value\nZZ\n"; done
+for value in 51.0,1,.2 0.0,1,.2 -1.0,1,.2 1,24.010,0 1,0.000,.2 1,-1.000,0 1,1,.510 1,1,0.5100 1,1,-.010 1,1,1.000; do
+    refused 7 6 "${reach_deck}RM $value\nZZ\n"
+done
+for fields in 1.0,STOR 1.000,STOR,0.0 1.,STOR,.0 +1.0,STOR,-0.000 1.00000000,STOR,.000000000; do lists "$lake_list" "$(rs "$fields")"; done
+for fields in 1.5,STOR 1.50,STOR 1,STOR,0.5 1.0,STOR,.01 1,STOR,0.000000000 1.10,FLOW; do refused 6 6 "$(rs "$fields")"; done
+for fields in 2.0,STOR 0.0,STOR 10.0,STOR -1.0,STOR 1,STOR,1.0 1.0,STOR,-1.000 1.0,FLOW 1.0; do refused 7 6 "$(rs "$fields")"; done
+flows '0 0 0 0' "$(table 0.000,99999.990 .0,100000.000)"
+flows '0 0 0 0' "$(table -0.0,.010 -.000,0.000)"
+for value in 1.001 .0010 1.500000000; do refused 6 7 "$(table "0,$value" 0,1)"; refused 6 8 "$(table 0,1 "0,$value")"; done
+for value in 100000.000 -.010 -1.0000; do refused 7 7 "$(table "0,$value" 0,1)"; done
+for value in 100000.010 -.010 -1.0000; do refused 7 8 "$(table 0,1 "0,$value")"; done
+
+# the deck of document 01 with zeros behind every number, in both forms
+pond_zeros='ID POND\n*FREE\nIT 60.0,,,4.000\nKK UP\nBA 1.5000\nPI 0.50000,0.300000,0.1000000\nLU 0.50000,.10000,0.000\nUI 10.000,4.0\nKK RIV\nRM 1.0,1.000,0.20000\nKK SIDE\nQI 1.000,2.0,2.0000000,1.00000000\nKK OUT\nHC 2.0\nZZ\n'
+lists "$pond_list" "$pond_zeros"
+lists "$pond_list" "$(fixed IT 60.000 '' '' 4.000000)\nKK    UP\n$(fixed BA 1.5000)\n$(fixed PI .50000 0.300000 .1000000)\n$(fixed LU .50000 0.100000 0.000000)\n$(fixed UI 10.000 4.000000)\nKKRIV\n$(fixed RM 1.0000 1.000000 0.200000)\nKK SIDE\n$(fixed QI 1.0000 2.000000 2.000000 1.000000)\nKK OUT\n$(fixed HC 2.0000)\nZZ\n"
+lists "RATIO 1.50\n${pond_up}RATIO 0.50\n${pond_down}END 4\n" "${pond_zeros/'KK UP'/'JR PREC,1.500,.50000\nKK UP'}"
+sheet "$up_sheet" "$pond_zeros" 1
+# in fixed form a field ends with its columns: the zeros go on in the next one
+flows '90000000 0 0 0' "${fix}QI1.5000\nZZ\n"
+flows '90000000 0 0 0' "${fix}QI1.500000\nZZ\n"     # 1.5000, and 00
+flows '90000000 90000000 0 0' "$fix$(fixed QI 1.5000 1.500000)\nZZ\n"
+refused 6 3 "$fix$(fixed QI 1.5001 1.500000)\nZZ\n"
+refused 6 3 "$fix$(fixed QI 1.5000 1.500001)\nZZ\n"
+refused 6 3 "${fix}QI1.5 00\nZZ\n"                  # a blank inside
+
 # ---- The counters ----------------------------------------------------------
 
 # The counter of losses, on blocks whose way and whose wrong rules are known:
@@ -2367,6 +2480,53 @@ for rows in 2 5 20; do
 done
 check 'the longest chain fits' yes "$([ "$("$decks" big 2 ponds | wc -c)" -le 60000 ] && echo yes)"
 check 'no table of one row' 2 "$("$decks" big 2 ponds 200 300 1 >"$scratch/said" 2>&1; echo $?)"
+
+# The counter of zeros.  Accepted are a deck in free form with 60.0, 1.500, .0,
+# -0.0 and 10.0, one in fixed form with 1.050000, and one without a point.
+# Refused with 6: 60.5, 1.0010 on BA, ten digits; with 7: 20.00010 on PI, 0.000 on
+# BA.
+known=$(sized '*FREE\nIT 60.0,,,4\nKK A\nQI 1.500,.0,-0.0,10.0\nZZ\n')$(sized "$fix$(fixed QI 1 1.050000)\nZZ\n")$(sized "$small")
+known+=$(sized "$(it 60.5,,,4)")$(sized "${area}BA 1.0010\nZZ\n")$(sized "$(unit_deck 1.500000000)")
+known+=$(sized "${free}KK A\nPI 20.00010\nZZ\n")$(sized "${area}BA 0.000\nZZ\n")
+# all decks, accepted
+expected='8,3,'
+# in fixed form, in free form, a place left, outside the limits: IT 1 and 4, JR,
+# BA, PB, PI, LU, UI, QI, HC, RM, RS, SV, SQ
+expected+='0 1 1 0,0 0 0 0,0 0 0 0,0 0 1 1,0 0 0 0,0 0 0 1,0 0 0 0,0 0 0 0,0 0 0 0,0 0 0 0,1 1 0 0,0 0 0 0,'
+expected+='0 0 0 0,0 0 0 0,0 0 0 0,0 0 0 0,0 0 0 0,0 0 0 0,0 0 0 0,'
+# within, nine digits, .0, -0.0, 0.000, 5., 00.50, 10.0, 1.0500, many, highest,
+# lowest, a full field; ten digits, 60.5, 1.001, 1.0010, above, zero, negative
+expected+='1,0,1,1,0,0,0,1,1,1,0,0,1,1,1,1,1,1,1,0,'
+# (a) 60 is 6 and 10 is 1 in the first; (b) 1.5, and 1.1 for BA; (c) ten digits;
+# (d) 60, and 1.00 for BA; (e) 150 and 10,500 cfs; (f) and (g) 6 for four decks;
+# (h) 6 for 1.050000; (i) 6, (j) 7 and (k) 6 for the first; none misread
+expected+='1,2,1,2,2,4,4,1,1,1,1,0,'
+got=$(printf '%b' "$known" | "$zeros_counter" | awk '$1 ~ /^[0-9]/ { t = $1; for (i = 2; i <= 4; i++) if (substr($0, 9 * i - 8, 9) ~ /^ *[0-9]+ $/) t = t " " $i; printf "%s,", t }')
+check 'zeros counted' "$expected" "$got"
+printf '%b' "$known" | "$zeros_counter" >"$scratch/said"
+check 'zeros: a count of 0 fails' 1 $?
+check 'zeros: what is missing' 38 "$(grep -c ': MISSING$' "$scratch/said")"
+printf '%b' "$known\x01" | "$zeros_counter" >"$scratch/said" 2>&1
+check 'zeros: input cut short' 2 $?
+check 'zeros: an unknown word' 2 "$("$zeros_counter" --nonsense </dev/null >"$scratch/said" 2>&1; echo $?)"
+# pairs: zeros in one deck, in neither, in both; and one that is refused
+one_and_half="${free}KK A\nQI 1.5\nZZ\n"
+one_pair=$(sized "$one_and_half")$(sized "${one_and_half/1.5/1.500}")
+known=$one_pair$(sized "$small")$(sized "$small")$(sized "${one_and_half/1.5/1.5000}")$(sized "${one_and_half/1.5/1.500}")
+known+=$(sized "$small")$(sized "$(it 60.5,,,4)")
+got=$(printf '%b' "$known" | "$zeros_counter" --pairs | awk '$1 ~ /^[0-9]/ { printf "%s,", $1 }'; echo "status ${PIPESTATUS[1]}")
+check 'zeros: pairs' '4,3,1,1,1,status 0' "$got"
+got=$(printf '%b' "$one_pair" | "$zeros_counter" --pairs | grep -c ': MISSING$')
+check 'zeros: pairs that are missing' 2 "$got"
+# the deck writer's own decks, with memory watched
+{ "$decks" bundle 2 1500; "$decks" damaged 2 500 6; } | "$zeros_counter" >"$scratch/said"
+check 'zeros: no wrong rule is left' '' "$(grep '(.*: MISSING' "$scratch/said")"
+check 'zeros: numbers that are not read by the rule' 0 "$(awk 'END { print $1 }' "$scratch/said")"
+check 'zeros: all written decks are looked at' 2000 "$(awk '$2 == "all" { print $1 }' "$scratch/said")"
+"$decks" pairs 2 200 | "$zeros_counter" --pairs >"$scratch/said"
+check 'zeros: pairs of the deck writer' 0 $?
+check 'a long deck with zeros' END "$("$decks" big 2 zeros | "$prog" | awk 'END { print $1 }')"
+check 'it fits' yes "$([ "$("$decks" big 2 zeros | wc -c)" -le 60000 ] && echo yes)"
 
 # The counter of moves.  To the new form: a record moved; the same with a room as
 # long as the file, which is enough by (k) alone.  To the old form: refused by 3
