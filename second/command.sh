@@ -498,7 +498,19 @@ gives "${free}QI +1,2.\nZZ\n" "$good_list"
 gives "${free}QI .5,0.50\nZZ\n" 'A 2 0.00 0.50 1 60000000\nEND 1\n'
 gives "${free}QI 0000001.5\nZZ\n" 'A 2 0.00 1.50 1 90000000\nEND 1\n'
 refuses 6 4 "${free}QI 00000001.50\nZZ\n"
-refuses 6 4 "${free}QI 1.500\nZZ\n"
+gives "${free}QI 1.500\nZZ\n" 'A 2 0.00 1.50 1 90000000\nEND 1\n'
+gives "${free}QI 1.50000000\nZZ\n" 'A 2 0.00 1.50 1 90000000\nEND 1\n'
+gives "${free}QI .0,-0.0,0.000,10.0\nZZ\n" 'A 2 0.00 10.00 4 600000000\nEND 1\n'
+gives '*FREE\nIT 60.0,,,4.000\nKK A\nQI 1,2\nZZ\n' "$good_list"
+gives 'IT60.00                   4.00\nKKA\nQI 1.00   2.000\nZZ\n' "$good_list"
+gives "${free}BA 1.5000\nPI 2.00000\nLU 0.000,.0,-0.000\nUI 50000.000\nZZ\n" 'A 1 1.50 100000.00 1 6000000000000\nEND 1\n'
+refuses 6 2 '*FREE\nIT 60.5,,,4\nKK A\nQI 1\nZZ\n'
+refuses 6 2 '*FREE\nIT 60,,,4.50\nKK A\nQI 1\nZZ\n'
+refuses 6 4 "${free}QI 1.500000000\nZZ\n"
+refuses 6 4 "${free}QI 1.001\nZZ\n"
+refuses 6 4 "${free}QI 1.0010\nZZ\n"
+refuses 7 4 "${free}PI 20.00010\nZZ\n"
+refuses 7 4 "${free}BA 0.000\nZZ\n"
 refuses 6 4 "${free}QI 1E2\nZZ\n"
 gives "${free}BA 1\nPI\nLU\nUI 10\nZZ\n" 'A 1 1.00 0.00 1 0\nEND 1\n'
 gives "${free}QI\nZZ\n" 'A 2 0.00 0.00 1 0\nEND 1\n'
