@@ -13,12 +13,13 @@
 # fault of theirs or do not tell a wrong rule of ponds from the right one, when
 # they lack a field or a number with zeros past its places, a number refused for
 # what it is with zeros, or do not tell a wrong rule of zeros from the right one,
-# when no pair has ponds or none has such zeros in one deck alone, when the
-# moves lack a sort of file or
-# room, or faults beside one another, or do not tell a wrong rule of the mover
-# from the right one, when the cases of the sheet lack an edge or do not tell a
-# wrong rule from the right one, when a sheet is not the one that its counter
-# works out, when a sound or a long deck is refused, or when a pair is violated.
+# when a number is not read by that rule as its counter states it, when no pair
+# has ponds or none has such zeros in one deck alone, when the moves lack a sort
+# of file or room, or faults beside one another, or do not tell a wrong rule of
+# the mover from the right one, when the cases of the sheet lack an edge or do
+# not tell a wrong rule from the right one, when a sheet is not the one that its
+# counter works out, when a sound or a long deck is refused, or when a pair is
+# violated.
 set -u
 root=$(CDPATH= cd -- "$(dirname -- "$0")/.." && pwd)
 . "$root/second/kit.sh" || exit 2
