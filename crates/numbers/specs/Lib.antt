@@ -3,3 +3,4 @@ pub mod Reading
 pub mod Digits
 pub mod Decimals
 pub mod FieldNumbers
+pub mod MoreZeros
