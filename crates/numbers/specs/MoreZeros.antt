@@ -8,9 +8,9 @@ use mathlib.Core.List.{List, [], _∷_, _++_, append-nil, append-assoc}
 use native.Mathlib.Omega.{arith}
 use borrow.Author.Tests.{le-leb}
 use lib.ListN.{length, replicate, length-append}
-use Rattle.meaning.specs.Words.{_≤?_, if_then_else_}
+use Rattle.meaning.specs.Words.{if_then_else_}
 use Rattle.meaning.specs.Fields.{trimEnd}
-use Rattle.meaning.specs.Numbers.{Number, NoNumber, Decimal, isDigit, isZero, beforePoint, behindPoint, allDigits, readOn, fractionLeft, decimalOf}
+use Rattle.meaning.specs.Numbers.{NoNumber, Decimal, isDigit, isZero, beforePoint, behindPoint, allDigits, readOn, fractionLeft, decimalOf}
 use Rattle.sequences.specs.Choices.{both-hold}
 use Rattle.sequences.specs.Runs.{test-tells}
 use Rattle.sequences.specs.Trimming.{trim-pass}
