@@ -28,7 +28,10 @@ flow-short m flow = rw (flow-figure m flow) (figure-short m flow (cfsMillionths 
 pub depths-short : (m : Measure) (rain loss excess : ℕ) → length (depthsText m rain loss excess) ≤ depthsSize
 depths-short m rain loss excess = simp length-append (omega (arith, depth-short m rain, depth-short m loss, depth-short m excess))
 
--- the same by the place behind them
+-- the same by the place behind a count, and behind the depths
+pub behind-count : (x : ℕ) {at behind : ℕ} {out next : List ℕ} → Written out at (cell (whole x)) next behind → behind ≤ at + cellSize
+behind-count x w = omega (arith, w .place, count-short x)
+
 pub behind-depths : (m : Measure) (rain loss excess : ℕ) {at behind : ℕ} {out next : List ℕ} → Written out at (depthsText m rain loss excess) next behind → behind ≤ at + depthsSize
 behind-depths m rain loss excess w = omega (arith, w .place, depths-short m rain loss excess)
 

@@ -1,16 +1,17 @@
 -- Document 02, CR 5: the hand sheet of a runoff block. One interval's excess is spread over all the unit ordinates, then the next interval's; the sums of the columns
 -- are the ordinates.
 use Prim.Native.Nat.{ℕ, zero, suc, _+_, _-_, _*_, _/_, _%_}
-use mathlib.Core.Bool.{Bool, _&&_, _||_}
+use mathlib.Core.Bool.{Bool, _&&_}
 use mathlib.Core.List.{List, [], _∷_, _++_}
 use lib.ListN.{length, getD}
 use Rattle.meaning.specs.Words.{_=?_, _≤?_, _<?_, if_then_else_, bytes}
 use Rattle.meaning.specs.Lines.{lf}
 use Rattle.meaning.specs.Water.{listFrom, sumTo, share}
-use Rattle.meaning.specs.Blocks.{Time, ratioAt, under, Block, opened, kindNumber, kindOf, unitOrdinates, rain, loss, excess}
+use Rattle.meaning.specs.Blocks.{Time, Block, opened, kindNumber, kindOf, unitOrdinates, rain, loss, excess}
 use Rattle.meaning.specs.Results.{Result, blocksOf}
-use Rattle.meaning.specs.Run.{Worked, Stopped, Done, worked, placeOf, namedRatio, blockCount, deckSize}
-use Rattle.meaning.specs.Listing.{digit, whole, twoPlaces, refusedLine}
+use Rattle.meaning.specs.Run.{placeOf}
+use Rattle.meaning.specs.Listing.{digit, whole, twoPlaces}
+use Rattle.meaning.specs.Shown.{shown}
 
 -- WHAT THE SHEET IS MADE FROM: the unit ordinates, and the rain, the loss and the excess of each of so many intervals.
 pub record Sheet : Type 0 where
@@ -123,15 +124,12 @@ noSheetLine kind = bytes "NO SHEET " ++ whole kind ++ (lf ∷ [])
 abbrev pub sheetText : Time → Block → List ℕ
 sheetText τ b = if kindNumber (kindOf b) =? 1 then tableOf Units τ b ++ tableOf Customary τ b else noSheetLine (kindNumber (kindOf b))
 
--- THE SHEET OF A DECK, for the named block under the named ratio (0: the last). It is refused as a run is that names them: by 17, if there is no such block or ratio.
+-- THE SHEET OF A DECK, for the named block under the named ratio.
 abbrev pub namedBlock : ℕ → List Result → Block
 namedBlock named rs = getD (blocksOf rs) (placeOf named (length rs)) (opened [])
 
-abbrev pub sheetBy : (named ratio : ℕ) → Worked → List ℕ
-sheetBy named ratio (Stopped number line) = refusedLine number line
-sheetBy named ratio (Done τ rss) =
-    if (blockCount rss <? named) || (length rss <? ratio) then refusedLine 17 0 else
-    sheetText (under (ratioAt (placeOf ratio (length rss)) τ) τ) (namedBlock named (namedRatio ratio rss))
+abbrev pub sheetIn : (named : ℕ) → Time → List Result → List ℕ
+sheetIn named τ rs = sheetText τ (namedBlock named rs)
 
 unfoldable pub sheet : List ℕ → (named ratio : ℕ) → List ℕ
-sheet deck named ratio = if deckSize <? length deck then refusedLine 2 0 else sheetBy named ratio (worked deck)
+sheet deck named ratio = shown (sheetIn named) deck named ratio

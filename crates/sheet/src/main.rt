@@ -3,14 +3,8 @@
 ghost use Prim.Native.Nat.{_≤_};
 ghost use lib.ListN.{length};
 ghost use Rattle.sheeting.specs.Sizes.{sheetSize};
+use streams::Asked;
 use streams::Next;
-
-// What a case says before its deck: the block and the ratio that are named, and the deck's length.
-struct Case {
-    named: usize,
-    ratio: usize,
-    size: usize,
-}
 
 // Answers whether the sheet and the line behind it were written.
 fn print_sheet(deck: &[u8], named: usize, ratio: usize, out: &mut [u8]) -> bool
@@ -23,31 +17,11 @@ fn print_sheet(deck: &[u8], named: usize, ratio: usize, out: &mut [u8]) -> bool
     false
 }
 
-enum Asked {
-    Sheet(Case),
-    Nothing,
-}
-
-fn next_case() -> Asked {
-    let mut b = [0u8; 12];
-    match streams::fill(&mut b) {
-        Next::Number(_) => Asked::Sheet(Case {
-            named: slices::number_at(&b, 0),
-            ratio: slices::number_at(&b, 4),
-            size: slices::number_at(&b, 8),
-        }),
-        none => {
-            streams::explain(none);
-            Asked::Nothing
-        }
-    }
-}
-
 // Answers whether there was a whole case and its sheet was written.
 fn answer_next(deck: &mut [u8], out: &mut [u8]) -> bool
     requires { ⌜ sheetSize ≤ length (now out) ⌝ }
 {
-    let Asked::Sheet(case) = next_case() else {
+    let Asked::Block(case) = streams::next_case() else {
         return false;
     };
     match streams::read_deck(deck, case.size) {

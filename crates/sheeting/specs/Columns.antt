@@ -1,5 +1,5 @@
 -- The columns of a runoff block that was read may be ruled and printed, and what is printed of them are the tables of its sheet.
-use Prim.Native.Nat.{ℕ, _+_, _-_}
+use Prim.Native.Nat.{ℕ}
 use mathlib.Core.Path.{_≡_, sym, ap, subst, _∙_}
 use mathlib.Core.List.{List, _++_, append-assoc}
 use native.Mathlib.Omega.{arith}

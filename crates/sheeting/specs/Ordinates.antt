@@ -17,8 +17,8 @@ use Rattle.network.specs.Order.{Enough}
 use Rattle.network.specs.Answers.{enough-room, Passed, passed-accepted}
 use Rattle.network.specs.WorkedBlocks.{closedUnder, DoneAs, done-as-said, as-many-under, count-blocks}
 use Rattle.listing.specs.Fitting.{done-fits}
+use Rattle.listing.specs.Naming.{number-within}
 use Rattle.columns.specs.Columns.{block-sums}
-use Rattle.sheeting.specs.Deck.{number-within}
 
 -- a runoff block holds its runoff, whatever is held before it
 basin-flow : (τ : Time) (held : List Held) (bs : List Block) (i : ℕ) → i < length bs → kindOf (getD (blocksOf (closedFrom τ held bs)) i (opened [])) ≡ Basin

@@ -9,7 +9,7 @@ use mathlib.Core.Bool.{true, false, true≢false}
 use mathlib.Core.List.{List, [], _++_}
 use borrow.Author.Tests.{eq-eqb, ne-eqb}
 use lib.ListN.{getD}
-use Rattle.meaning.specs.Words.{_=?_, if_then_else_}
+use Rattle.meaning.specs.Words.{if_then_else_}
 use Rattle.meaning.specs.Blocks.{Time, Block, ratioAt, under, kindNumber, kindOf}
 use Rattle.meaning.specs.Sheet.{Sheet, Units, Customary, titleLine, tableText, tableOf, noSheetLine, sheetText}
 use Rattle.limits.specs.Within.{within-under}
@@ -22,10 +22,6 @@ use Rattle.finding.specs.Place.{Place, Nowhere, At, FoundIs}
 abbrev pub blockText : (ratio : ℕ) (name : List ℕ) → Sheet → (sums : List ℕ) → List ℕ
 blockText ratio name s sums =
     titleLine Units ratio name ++ tableText Units s sums ++ titleLine Customary ratio name ++ tableText Customary s sums
-
--- the number, from 1, of what is named (0: the last)
-abbrev pub numberOf : (named count : ℕ) → ℕ
-numberOf named count = if named =? 0 then count else named
 
 abbrev pub sheetAt : (place : ℕ) → Place → List ℕ
 sheetAt place Nowhere = []

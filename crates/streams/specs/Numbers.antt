@@ -1,6 +1,7 @@
 -- What a number that was read means, of each function that answers one; where there is none, nothing is said.
 --     Filled        as many bytes as are lent
 --     InFour        a number that four bytes hold; which four they were no contract of the kit tells
+--     CaseInFour    the same of the three numbers before a case's deck
 --     Kept          of a deck of that size, as many bytes as are lent for it
 --     Fits          of a deck of any size that four bytes hold
 --     of-number     what holds of the number that was answered
@@ -10,6 +11,9 @@ use mathlib.Core.List.{List}
 use Prim.Native.Nat.{ℕ, _^_, _≤_, _<_, min}
 use native.Mathlib.Omega.{arith}
 use lib.ListN.{length}
+use Rattle.streams.specs.declared.Case.{Case}
+use Rattle.streams.specs.declared.Asked.{Asked}
+use Rattle.streams.specs.declared.Asked.the-variants.{Block, Nothing}
 use Rattle.streams.specs.declared.Next.{Next}
 use Rattle.streams.specs.declared.Next.the-variants.{Number, End, Cut, Failed}
 
@@ -24,6 +28,15 @@ Filled lent = OfNumber (λ n. n ≡ length lent)
 
 abbrev pub InFour : Next → Type 0
 InFour = OfNumber (λ n. n < 256 ^ 4)
+
+pub record InFourEach (c : Case) : Type 0 where
+  pub named : c .named < 256 ^ 4
+  pub ratio : c .ratio < 256 ^ 4
+  pub size : c .size < 256 ^ 4
+
+abbrev pub CaseInFour : Asked → Type 0
+CaseInFour (Block c) = InFourEach c
+CaseInFour Nothing = Unit {0}
 
 abbrev pub Kept : ℕ → List ℕ → Next → Type 0
 Kept size lent = OfNumber (λ n. n ≡ min size (length lent))

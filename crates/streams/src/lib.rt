@@ -2,8 +2,9 @@
 // to the output. Where either fails, or the input ends too early, a line on standard error says so: a program has no exit status.
 ghost use mathlib.Core.Path.{_≡_};
 ghost use Prim.Native.Nat.{_≤_};
+ghost use lib.ListN.{length};
 ghost use Rattle.io.specs.Counts.{Counts};
-ghost use Rattle.streams.specs.Numbers.{Filled, InFour, Kept, Fits};
+ghost use Rattle.streams.specs.Numbers.{Filled, InFour, InFourEach, CaseInFour, Kept, Fits};
 use libc::STDERR_FILENO;
 use libc::STDIN_FILENO;
 use libc::STDOUT_FILENO;
@@ -141,6 +142,45 @@ pub fn next_deck(deck: &mut [u8]) -> Next
         Next::End => Next::End,
         Next::Cut => Next::Cut,
         Next::Failed => Next::Failed,
+    }
+}
+
+// What a case says before its deck: the block and the ratio that are named, and the deck's length.
+pub struct Case {
+    pub named: usize,
+    pub ratio: usize,
+    pub size: usize,
+}
+
+// A case of one block, or none.
+pub enum Asked {
+    Block(Case),
+    Nothing,
+}
+
+// The three numbers of a head of 12 bytes. They are lent, as only of lent bytes it is known that each is below 256.
+fn case_of(head: &[u8]) -> Case
+    requires { ⌜ length (now head) ≡ 12 ⌝ }
+    ensures { λ r. ⌜ InFourEach r ⌝ }
+{
+    Case {
+        named: slices::number_at(head, 0),
+        ratio: slices::number_at(head, 4),
+        size: slices::number_at(head, 8),
+    }
+}
+
+// The head of the next case: three numbers of 4 bytes. Where there is none, it is said why.
+pub fn next_case() -> Asked
+    ensures { λ r. ⌜ CaseInFour r ⌝ }
+{
+    let mut b = [0u8; 12];
+    match fill(&mut b) {
+        Next::Number(_) => Asked::Block(case_of(&b)),
+        none => {
+            explain(none);
+            Asked::Nothing
+        }
     }
 }
 
