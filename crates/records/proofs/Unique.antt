@@ -1,7 +1,7 @@
 -- Two outcomes that meet a contract of this crate, as its `ensures` line has it, are equal.
-use mathlib.Core.Path.{_≡_}
+use mathlib.Core.Path.{_≡_, sym, _∙_}
 use Rattle.sequences.specs.Contracts.{Once}
-use Rattle.rules.specs.Rules.{one-field}
+use Rattle.rules.specs.Rules.{one-field, one-rule}
 use Rattle.records.proofs.start_of.Kinds as start-of
 use Rattle.records.proofs.start_of.Reads as start-of-says
 use Rattle.records.proofs.way_of.Kinds as way-of
@@ -14,6 +14,8 @@ use Rattle.records.proofs.named_fields.Kinds as named-fields
 use Rattle.records.proofs.named_fields.Reads as named-fields-says
 use Rattle.records.proofs.place_of.Kinds as place-of
 use Rattle.records.proofs.place_of.Reads as place-of-says
+use Rattle.records.proofs.rule_at.Kinds as rule-at
+use Rattle.records.proofs.rule_at.Reads as rule-at-says
 use Rattle.records.proofs.field_at.Kinds as field-at
 use Rattle.records.proofs.field_at.Reads as field-at-says
 
@@ -34,6 +36,9 @@ one-named-fields κs a x y e f p q = cc
 
 pub one-place-of : Once place-of.ps place-of.r place-of-says.Post (λ κs x y e f. x ≡ y)
 one-place-of κs a x y e f p q = cc
+
+pub one-rule-at : Once rule-at.ps rule-at.r rule-at-says.Post (λ κs x y e f. x ≡ y)
+one-rule-at κs a x y e f p q = one-rule x y (p ∙ sym q)
 
 pub one-field-at : Once field-at.ps field-at.r field-at-says.Post (λ κs x y e f. x ≡ y)
 one-field-at κs a x y e f p q = one-field _ _ _ x y p q

@@ -194,7 +194,7 @@ fn own_rule(item: usize, k: usize) -> Rule
 }
 
 // The same for any field: a line has ten at most.
-fn rule_at(item: usize, k: usize) -> Rule
+pub fn rule_at(item: usize, k: usize) -> Rule
     ensures { λ r. ⌜ ruleBy r ≡ ruleAt (rulesBy item) k ⌝ }
 {
     if 10 <= k {

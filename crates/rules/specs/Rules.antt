@@ -1,6 +1,6 @@
 -- Rules as the code has them, and what a field holds by its rule.
 use Prim.Native.Nat.{ℕ, _≤_}
-use mathlib.Core.Path.{_≡_, refl, sym, _∙_}
+use mathlib.Core.Path.{_≡_, refl, sym, ap, _∙_}
 use mathlib.Core.Bool.{Bool, true, false, _&&_, not, true≢false}
 use Rattle.meaning.specs.Words.{_=?_, if_then_else_}
 use Rattle.meaning.specs.Numbers as numbers
@@ -16,6 +16,22 @@ ruleBy Unnamed = records.Unnamed
 ruleBy NotRead = records.NotRead
 ruleBy (Limited places low high) = records.Limited places low high
 ruleBy (Worded refusal most low high) = records.Worded refusal most low high
+
+-- and back: a rule of the definitions is one of the code
+abbrev ruleFor : records.Rule → Rule
+ruleFor records.Unnamed = Unnamed
+ruleFor records.NotRead = NotRead
+ruleFor (records.Limited places low high) = Limited places low high
+ruleFor (records.Worded refusal most low high) = Worded refusal most low high
+
+rule-back : (r : Rule) → r ≡ ruleFor (ruleBy r)
+rule-back Unnamed = refl
+rule-back NotRead = refl
+rule-back (Limited places low high) = refl
+rule-back (Worded refusal most low high) = refl
+
+pub one-rule : (x y : Rule) → ruleBy x ≡ ruleBy y → x ≡ y
+one-rule x y e = rule-back x ∙ ap ruleFor e ∙ sym (rule-back y)
 
 -- What a field was found to hold: a fault, or no fault with its value and whether it is outside its limits.
 abbrev pub FieldIs : Field → (faulty outside : Bool) → (value : ℕ) → Type 0

@@ -1,6 +1,7 @@
 -- What one pass over a line's fields keeps, field by field: the values, the place of the last field that is not blank, and whether a value is outside its limits.
 --     scanFrom         the pass, as a left fold over the fields
 --     scan-outside     the flag is refusal 7's
+--     countBehind, count-step, count-start   the place behind the last field that is not blank, field by field
 --     scan-count       the count is that of the fields left when trailing blank ones are dropped
 --     scan-values      the values are those fields'
 use Prim.Native.Nat.{ℕ, suc, _+_, _-_, _≤_, _<_}
@@ -44,11 +45,11 @@ scan-outside rules k (f ∷ fs) s =
     scan-outside rules (k + 1) fs (noted rules k f s) ∙ or-assoc (s .outside) (outsideField (ruleAt rules k) f) (anyOutside rules (k + 1) fs)
 
 -- the count behind fields of which ts are left, with c before
-abbrev countBehind : ℕ → ℕ → List (List ℕ) → ℕ
+abbrev pub countBehind : ℕ → ℕ → List (List ℕ) → ℕ
 countBehind c k [] = c
 countBehind c k (t ∷ ts) = k + length (t ∷ ts)
 
-count-step : (c k : ℕ) (f : List ℕ) (ts : List (List ℕ)) → countBehind (if empty f then c else k + 1) (k + 1) ts ≡ countBehind c k (if empty f && empty ts then [] else f ∷ ts)
+pub count-step : (c k : ℕ) (f : List ℕ) (ts : List (List ℕ)) → countBehind (if empty f then c else k + 1) (k + 1) ts ≡ countBehind c k (if empty f && empty ts then [] else f ∷ ts)
 unfolding if_then_else_
 count-step c k [] [] = refl
 count-step c k [] (t ∷ ts) = omega arith
@@ -60,7 +61,7 @@ unfolding scanFrom trimEnd
 scan-counts rules k [] s = refl
 scan-counts rules k (f ∷ fs) s = scan-counts rules (k + 1) fs (noted rules k f s) ∙ count-step (s .count) k f (trimEnd empty fs)
 
-count-start : (ts : List (List ℕ)) → countBehind 0 0 ts ≡ length ts
+pub count-start : (ts : List (List ℕ)) → countBehind 0 0 ts ≡ length ts
 count-start [] = refl
 count-start (t ∷ ts) = omega arith
 
