@@ -6,14 +6,17 @@
  * refusals leave zeros, too little room is refused only where nothing else
  * is, records agree with ordinates and say their ratio, they move to the old
  * form and back just where no other ratio than 1.00 is among them, the sheet of
- * a runoff block adds up to its ordinates, a pond starts without outflow and
- * never lets out more than has come in, and some changes to a deck change
- * nothing or only the line.  Prints two lines and ends with status 0, or says
- * what broke, shows the deck and ends with status 1. */
+ * a runoff block adds up to its ordinates, a hydrograph in print reads as the
+ * ordinates again, a pond starts without outflow and never lets out more than
+ * has come in, and some changes to a deck change nothing or only the line.
+ * Prints two lines and ends with status 0, or says what broke, shows the deck
+ * and ends with status 1. */
 #include "engine.h"
+#include "hydrograph.h"
 #include "mover.h"
 #include "sheet.h"
 
+#include <inttypes.h>
 #include <stdbool.h>
 #include <stdio.h>
 #include <stdlib.h>
@@ -423,6 +426,56 @@ static void check_sheet(const struct outcome *o, unsigned block,
     sheets++;
 }
 
+static unsigned long hydrographs;
+
+/* A line of the hydrograph, which must say the ordinate; returns the line
+ * behind it.  Six places are off by half a millionth at most, 30 units. */
+static const char *check_flow(const char *at, unsigned interval,
+                              uint32_t minutes, uint64_t flow)
+{
+    uint64_t whole, millionths, units;
+    uint32_t end;
+    unsigned first;
+    int bytes = 0;
+
+    if (sscanf(at, "%u,%" SCNu32 ",%" SCNu64 ".%6" SCNu64 ",%" SCNu64 "%n",
+               &first, &end, &whole, &millionths, &units, &bytes) != 5
+        || at[bytes] != '\n')
+        broken("a hydrograph has a line of another form");
+    if (first != interval || end != interval * minutes || units != flow)
+        broken("a hydrograph has another line");
+    millionths += 1000000 * whole;
+    if (60 * millionths > units + 30 || 60 * millionths + 29 < units)
+        broken("a flow is not rounded half up");
+    return at + bytes + 1;
+}
+
+/* The minutes are read from a deck that ends where it is said to. */
+static void check_hydrograph(const struct outcome *o)
+{
+    static const char head[] = "interval,minutes,cfs,units\n";
+    static char text[HYDROGRAPH_ROOM + 1];
+    uint8_t *copy = take(deck_length, 0);
+    const char *at = text + sizeof head - 1;
+    uint32_t minutes;
+    size_t length;
+
+    memcpy(copy, deck, deck_length);
+    minutes = minutes_of(copy, deck_length);
+    free(copy);
+    length = write_hydrograph(o->room.ordinates, o->answer.nq, minutes, text);
+    text[length] = '\0';
+    if (minutes < 1 || minutes > 1440)
+        broken("the minutes of a hydrograph are outside their limits");
+    if (strncmp(text, head, sizeof head - 1) != 0)
+        broken("a hydrograph has another head");
+    for (unsigned k = 1; k <= o->answer.nq; k++)
+        at = check_flow(at, k, minutes, o->room.ordinates[k - 1]);
+    if (at != text + length)
+        broken("a hydrograph goes on");
+    hydrographs++;
+}
+
 static unsigned kind_at(const struct outcome *o, unsigned block,
                         unsigned ratio)
 {
@@ -473,6 +526,7 @@ static void check_named(const struct outcome *base, unsigned ratio)
             broken("the named block changes records");
         if (kind_at(&o, block, place) == SHEET_KIND)
             check_sheet(&o, block, place);
+        check_hydrograph(&o);
         if (kind_at(&o, block, place) == POND_KIND && k > 1)
             check_pond(&o, before);
         memcpy(before, o.room.ordinates, nq * sizeof *before);
@@ -592,7 +646,7 @@ int main(void)
     for (unsigned k = 1; k <= LAST_REFUSAL; k++)
         if (count[k] > 0)
             printf(" %u:%u", k, count[k]);
-    printf("\nfuzz: %lu sheets, all of which add up, and %lu ponds\n", sheets,
-           ponds);
+    printf("\nfuzz: %lu sheets, all of which add up, %lu hydrographs and %lu"
+           " ponds\n", sheets, hydrographs, ponds);
     return 0;
 }

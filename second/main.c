@@ -1,9 +1,9 @@
-/* The program around the engine, the mover and the sheet: reads one deck, a
- * bundle of decks or a bundle of cases from standard input and prints listings
- * (document 01, 'A deck and its listing', and document 02, CR 3) or, in the
- * full form, all that the engine leaves in the room lent to it.  Likewise for
- * files of records and the mover (document 02, CR 4), and for the sheets of
- * runoff blocks (CR 5).
+/* The program around the engine, the mover, the sheet and the hydrograph: reads
+ * one deck, a bundle of decks or a bundle of cases from standard input and
+ * prints listings (document 01, 'A deck and its listing', and document 02, CR 3)
+ * or, in the full form, all that the engine leaves in the room lent to it.
+ * Likewise for files of records and the mover (document 02, CR 4), for the
+ * sheets of runoff blocks (CR 5) and for the hydrographs of any blocks.
  *
  *   hec1                                  one deck, its listing
  *   hec1 --bundle                         length and deck, again and again
@@ -17,6 +17,8 @@
  *                                         the old); writes bare records
  *   hec1 --sheet                          K, R, length and deck, again: the
  *                                         sheet of block K under ratio R
+ *   hec1 --hydrograph                     K, R, length and deck, again: the
+ *                                         hydrograph of block K under ratio R
  *
  * Numbers in bundles have 4 bytes, little-endian.  Exit status 0 whether decks
  * and files are refused or not; 2 when the input is cut short, asks for what
@@ -24,6 +26,7 @@
  * engine's ordinates.  With --store the refusal goes to standard error, and so
  * does INPUT CUT where nothing that is known is asked. */
 #include "engine.h"
+#include "hydrograph.h"
 #include "mover.h"
 #include "sheet.h"
 
@@ -365,6 +368,22 @@ static void print_sheet(size_t length, struct named named)
     fwrite(text, 1, write_sheet(&sheet, text), stdout);
 }
 
+/* ---- Hydrographs ------------------------------------------------------ */
+
+static void print_hydrograph(size_t length, struct named named)
+{
+    static char text[HYDROGRAPH_ROOM];
+    const struct room *room = enough_room();
+    struct answer answer = run_deck(deck, length, named, room);
+
+    if (answer.refusal != 0)
+        print_refusal(stdout, &answer);
+    else
+        fwrite(text, 1,
+               write_hydrograph(room->ordinates, answer.nq,
+                                minutes_of(deck, length), text), stdout);
+}
+
 /* ---- Reading ---------------------------------------------------------- */
 
 /* Reads standard input to its end.  Where there are more bytes than room only
@@ -390,7 +409,7 @@ static size_t read_only_deck(void)
 enum {
     CASE_NUMBERS = 6,
     MOVE_NUMBERS = 3,
-    SHEET_NUMBERS = 3
+    NAMED_NUMBERS = 3
 };
 
 /* Reads numbers of 4 bytes.  False: the input ends where the first would
@@ -463,13 +482,14 @@ static void run_mover(void)
     }
 }
 
-static void run_sheets(void)
+/* Cases that name a block and a ratio, and what is printed of each. */
+static void run_named(void (*print)(size_t length, struct named named))
 {
-    uint32_t number[SHEET_NUMBERS];
+    uint32_t number[NAMED_NUMBERS];
 
-    while (read_numbers(number, SHEET_NUMBERS)) {
+    while (read_numbers(number, NAMED_NUMBERS)) {
         read_deck(number[2]);
-        print_sheet(number[2], (struct named){ number[0], number[1] });
+        print(number[2], (struct named){ number[0], number[1] });
         puts("--");
     }
 }
@@ -518,11 +538,13 @@ enum mode {
     MOVER,
     STORE,
     SHEET,
+    HYDROGRAPH,
     MODES
 };
 
 static const char *const mode_word[MODES] = {
-    "", "--full", "--bundle", "--cases", "--mover", "--store", "--sheet"
+    "", "--full", "--bundle", "--cases", "--mover", "--store", "--sheet",
+    "--hydrograph"
 };
 
 /* The mode that a word asks for; LISTING has no word. */
@@ -576,7 +598,10 @@ int main(int argc, char **argv)
         run_store();
         break;
     case SHEET:
-        run_sheets();
+        run_named(print_sheet);
+        break;
+    case HYDROGRAPH:
+        run_named(print_hydrograph);
         break;
     case FULL:
         print_full(read_only_deck(), &wish);
