@@ -2391,6 +2391,112 @@ refused 6 3 "$fix$(fixed QI 1.5001 1.500000)\nZZ\n"
 refused 6 3 "$fix$(fixed QI 1.5000 1.500001)\nZZ\n"
 refused 6 3 "${fix}QI1.5 00\nZZ\n"                  # a blank inside
 
+# ---- The hydrograph in print -------------------------------------------------
+
+# hydrograph LINES DECK [BLOCK [RATIO]]: the text of a case behind its head, the last
+# block and ratio by default
+text_head='interval,minutes,cfs,units\n'
+hydrograph() { bundle --hydrograph "$text_head$1--\n" "$ok" "$(sheet_of "${3:-0}" "${4:-0}" "$2")"; }
+# no_hydrograph NUMBER LINE DECK [BLOCK [RATIO]]
+no_hydrograph() { bundle --hydrograph "REFUSED $1 $2\n--\n" "$ok" "$(sheet_of "${4:-0}" "${5:-0}" "$3")"; }
+
+# the deck of document 01: P2, P3, the inflow and P4.  27,692,307 units are
+# 461,538.45 millionths, 82,082,840 are 1,368,047.33, 44,788,348 are 746,472.47
+up_text='1,60,0.000000,0\n2,120,2.000000,120000000\n3,180,0.800000,48000000\n4,240,0.000000,0\n'
+riv_text='1,60,0.000000,0\n2,120,0.461538,27692307\n3,180,1.368047,82082840\n4,240,0.746472,44788348\n'
+side_text='1,60,1.000000,60000000\n2,120,2.000000,120000000\n3,180,2.000000,120000000\n4,240,1.000000,60000000\n'
+out_text='1,60,1.000000,60000000\n2,120,2.461538,147692307\n3,180,3.368047,202082840\n4,240,1.746472,104788348\n'
+for text in 0 1; do     # the one ratio, as the last and as the first
+    hydrograph "$up_text" "$pond" 1 "$text"
+    hydrograph "$riv_text" "$pond" 2 "$text"
+    hydrograph "$side_text" "$pond" 3 "$text"
+    hydrograph "$out_text" "$pond" 4 "$text"
+    hydrograph "$out_text" "$pond" 0 "$text"
+done
+hydrograph "$up_text" "${pond%'\n'}" 1
+hydrograph "$riv_text" "${pond//'\n'/'\r\n'}" 2
+hydrograph "$out_text" "${pond//'\n'/'\nKM IT 15\n   \n'}"
+hydrograph "$out_text" "${pond}IT 15,,,2\nKK X\nQI 9\nZZ\n"         # behind ZZ
+hydrograph "$riv_text" "$pond_zeros" 2
+
+# what there is not is told last of all, and a deck that is refused has its own
+# refusal whatever is named
+for text in '5 0' '1 2' '5 2' '0 2' '4294967295 0' '1 4294967295' '256 0' '0 256' '65536 65536' '2147483648 1'; do
+    no_hydrograph 17 0 "$pond" "${text% *}" "${text#* }"
+    no_hydrograph 10 15 "${pond/HC 2/HC 3}" "${text% *}" "${text#* }"
+done
+no_hydrograph 10 15 "${pond/HC 2/HC 3}" 1 1
+no_hydrograph 16 0 ''
+no_hydrograph 16 0 "$free${inflow}" 1 1
+no_hydrograph 3 5 "$free${inflow}ZZ\x80\n" 9 9
+no_hydrograph 2 0 "$small$(pad 60001)"
+no_hydrograph 2 0 "$small$(pad 60001)" 9 9
+one_text='1,60,1.000000,60000000\n2,120,0.000000,0\n3,180,0.000000,0\n4,240,0.000000,0\n'
+hydrograph "$one_text" "$small$(pad 60000)" 1 1
+
+# the sixth place.  The loss leaves one depth unit, so a unit ordinate's hundredths
+# are flow units: 29 are less than half a millionth, 30 are a half and 31 more.
+hydrograph '1,1,0.000000,29\n2,2,0.000001,30\n3,3,0.000001,31\n4,4,0.000000,0\n' "$(runoff 1 4 ,.0059 .0001 .29,.3,.31)"
+hydrograph '1,1,0.000001,89\n2,2,0.000002,90\n3,3,0.000002,91\n4,4,0.000000,0\n' "$(runoff 1 4 ,.0059 .0001 .89,.9,.91)"
+hydrograph '1,1,0.000000,1\n2,2,0.000001,59\n3,3,0.000001,60\n4,4,0.000001,61\n' "$(runoff 1 4 ,.0059 .0001 .01,.59,.6,.61)"
+hydrograph '1,1,0.099999,5999969\n2,2,0.100000,5999970\n3,3,0.100000,6000029\n4,4,0.100001,6000030\n' \
+    "$(runoff 1 4 ,.0059 .0001 59999.69,59999.7,60000.29,60000.3)"
+# up to a whole cfs and not quite: 30 times 1,999,999 depth units, 720 - 47 times
+# 89,153; and under the flow limit by half a millionth
+hydrograph '1,1,1.000000,59999970\n' "$(runoff 1 1 ,.0041 3.3334 .3)"
+hydrograph '1,1,0.999999,59999969\n' "$(runoff 1 1 ,.0047 .0012 891.53)"
+near_limit=$(runoff 1 1 ,.0041 3.3334 .3)
+near_limit=${near_limit%'ZZ\n'}'KK B\nQI 99999\nKK C\nHC 2\nZZ\n'
+hydrograph '1,1,100000.000000,5999999999970\n' "$near_limit"
+no_hydrograph 13 12 "${near_limit/'QI 99999'/'QI 100000'}" 1
+hydrograph '1,60,100000.000000,6000000000000\n2,120,99999.990000,5999999400000\n' '*FREE\nIT 60,,,2\nKK A\nQI 100000,99999.99\nZZ\n'
+hydrograph '1,60,0.010000,600000\n2,120,10.100000,606000000\n' '*FREE\nIT 60,,,2\nKK A\nQI .01,10.1\nZZ\n'
+
+# minutes, in both forms and as IT spells them; no flow at all; 1 and 300 lines
+of_minutes() { printf '%sKK A\\nQI\\nZZ\\n' "$1"; }
+hydrograph '1,1,0.000000,0\n2,2,0.000000,0\n' "$(of_minutes '*FREE\nIT 1,,,2\n')"
+hydrograph '1,1440,0.000000,0\n2,2880,0.000000,0\n3,4320,0.000000,0\n' "$(of_minutes '*FREE\nIT 1440,,,3\n')"
+hydrograph '1,7,0.000000,0\n2,14,0.000000,0\n' "$(of_minutes '*FREE\nIT +07.000,x,y,2.0\n')"
+hydrograph '1,15,0.000000,0\n2,30,0.000000,0\n' "$(of_minutes 'ID *FREE\nKM\n\nIT    15      30      45       2\n')"
+hydrograph '1,15,0.000000,0\n2,30,0.000000,0\n' "$(of_minutes '*FREE\n*FIX\nIT15      1,2     3 4     2\n')"
+hydrograph '1,90,0.000000,0\n' "$(of_minutes '*FIX\n*FREE   \nKM IT 5\n\nIT90 1 1 1\n')"
+text=
+for ((k = 1; k <= 300; k++)); do text+="$k,$((1440 * k)),0.000000,0\n"; done
+hydrograph "$text" "$(of_minutes '*FREE\nIT 1440,,,300\n')"
+
+# a pond, as it is worked out above, and its inflow
+hydrograph '1,121,0.000000,0\n2,242,1.000000,60000000\n3,363,9.206897,552413793\n4,484,15.877527,952651605\n5,605,11.039403,662364180\n6,726,4.181925,250915492\n7,847,1.626928,97615694\n' "$worked" 2
+hydrograph '1,121,0.000000,0\n2,242,7.000000,420000000\n3,363,21.000000,1260000000\n4,484,15.000000,900000000\n5,605,4.000000,240000000\n6,726,0.000000,0\n7,847,0.000000,0\n' "$worked" 1
+
+# two ratios: 1.50 makes other flows of the rain and of what is below it, 0.50
+# none; the inflow is the same under both
+two_storms=${jr_pond/1.00/'1.5,.5'}
+none_text='1,60,0.000000,0\n2,120,0.000000,0\n3,180,0.000000,0\n4,240,0.000000,0\n'
+more_text='1,60,1.500000,90000000\n2,120,4.100000,246000000\n3,180,1.900000,114000000\n4,240,0.200000,12000000\n'
+hydrograph "$more_text" "$two_storms" 1 1
+hydrograph "$none_text" "$two_storms" 1 2
+hydrograph "$none_text" "$two_storms" 1 0
+hydrograph '1,60,1.500000,90000000\n2,120,2.100000,126000000\n3,180,3.130769,187846153\n4,240,1.791716,107502959\n' "$two_storms" 2 1
+hydrograph "$none_text" "$two_storms" 2 2
+hydrograph "$side_text" "$two_storms" 3 1
+hydrograph "$side_text" "$two_storms" 3 2
+hydrograph '1,60,2.500000,150000000\n2,120,4.100000,246000000\n3,180,5.130769,307846153\n4,240,2.791716,167502959\n' "$two_storms" 0 1
+hydrograph "$side_text" "$two_storms" 0 0
+no_hydrograph 17 0 "$two_storms" 1 3
+no_hydrograph 17 0 "$two_storms" 5 1
+# refused under one of them, whichever is named
+too_much="${free}JR PREC,1,1.01\nKK A\nBA 1\nPI 20\nLU\nUI 5000\nZZ\n"
+for text in 0 1 2 3; do no_hydrograph 13 9 "$too_much" 1 "$text"; done
+
+# several cases, and where they end
+bundle --hydrograph '' "$ok" ''
+bundle --hydrograph "$text_head$up_text--\nREFUSED 2 0\n--\n$text_head$riv_text--\nREFUSED 16 0\n--\n$text_head$more_text--\n" "$ok" \
+    "$(sheet_of 1 0 "$pond")$(sheet_of 1 1 "$long")$(sheet_of 2 1 "$pond")$(sheet_of 0 0 '')$(sheet_of 1 1 "$two_storms")"
+for rest in '\x01' "$(le4 1)" "$(le4 1)$(le4 0)" "$(le4 1)$(le4 0)\x01\x00\x00" "$(le4 1)$(le4 0)$(le4 3)ZZ" "$(le4 1)$(le4 0)$(le4 100000)$long"; do
+    bundle --hydrograph "$text_head$out_text--\n" '2, said' "$(sheet_of 4 0 "$pond")$rest"
+done
+check 'two modes, one of them the hydrograph' 'status 2, said' "$(run --hydrograph --sheet </dev/null)"
+
 # ---- The counters ----------------------------------------------------------
 
 # The counter of losses, on blocks whose way and whose wrong rules are known:
