@@ -53,13 +53,13 @@ bool next_deck(const char *program, uint8_t *deck, size_t *length)
     return true;
 }
 
-bool next_sheet(const char *program, struct sheet_case *sheet)
+bool next_named(const char *program, struct named_case *one)
 {
     if (at_end())
         return false;
-    sheet->named.block = read_number(program);
-    sheet->named.ratio = read_number(program);
-    read_deck(program, sheet->deck, &sheet->length);
+    one->named.block = read_number(program);
+    one->named.ratio = read_number(program);
+    read_deck(program, one->deck, &one->length);
     return true;
 }
 

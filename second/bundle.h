@@ -1,6 +1,6 @@
-/* How the counters read their input: what hec1 --bundle, hec1 --mover or hec1
- * --sheet reads, from standard input.  An input that is cut short ends the
- * program with status 2; program is its name. */
+/* How the counters read their input: what hec1 --bundle, hec1 --mover, hec1
+ * --sheet or hec1 --hydrograph reads, from standard input.  An input that is cut
+ * short ends the program with status 2; program is its name. */
 #ifndef BUNDLE_H
 #define BUNDLE_H
 
@@ -29,14 +29,14 @@ struct move_case {
  * with status 2 as well. */
 bool next_move(const char *program, struct move_case *move);
 
-/* A case of the sheet. */
-struct sheet_case {
+/* A case of the sheet or of the hydrograph. */
+struct named_case {
     struct named named;
     size_t length;
     uint8_t deck[DECK_LIMIT];
 };
 
 /* False at the end of input. */
-bool next_sheet(const char *program, struct sheet_case *sheet);
+bool next_named(const char *program, struct named_case *one);
 
 #endif

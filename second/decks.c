@@ -1,7 +1,7 @@
 /* The deck writer: seeded test decks for the engine of document 01, with the
    storm totals, losses, ratios, ponds and trailing zeros of document 02, CR 1 to
-   CR 3, CR 6 and CR 7, files of records for the mover of CR 4 and decks for the
-   sheet of CR 5. */
+   CR 3, CR 6 and CR 7, files of records for the mover of CR 4, and decks for the
+   sheet of CR 5 and for the hydrograph in print. */
 #include <stdio.h>
 #include <stdlib.h>
 #include <string.h>
@@ -25,6 +25,7 @@ static const char help[] =
     "                                 0 to the new form and 1 to the old; room; length) and the file\n"
     "decks sheets SEED COUNT          COUNT cases of the sheet: three 4-byte little-endian numbers (named block,\n"
     "                                 named ratio, deck length) and the deck\n"
+    "decks hydrographs SEED COUNT     COUNT cases of the hydrograph, with the same numbers\n"
     "decks pairs SEED COUNT           COUNT pairs of decks, as in a bundle; each pair draws one network\n"
     "                                 in two orders and two manners of writing\n"
     "decks sound SEED COUNT           COUNT lawful decks, as in a bundle\n"
@@ -344,7 +345,7 @@ static void moves(uint64_t seed, int count)
     }
 }
 
-/* ---- cases of the sheet ---- */
+/* ---- cases of the sheet and of the hydrograph ---- */
 
 /* each refusal that a deck can meet, as often as any other */
 static int any_refusal(void)
@@ -353,31 +354,34 @@ static int any_refusal(void)
     return number >= 17 ? number + 1 : number;
 }
 
-/* Behind ZZ nothing is read: what stands there would be more cards of the last block. */
-static void cards_behind(void)
+/* Behind ZZ nothing is read, whatever cards stand there: more of the last block,
+   and others of the run. */
+static const char block_cards[] = "PI 1,1\nUI 9\nLU 0,0\n*FREE\nPI 1,1\nUI 9\nLU 0,0\nPB 5\n";
+static const char run_cards[] = "IT    17                       2\n*FREE\nIT 17,,,2\nJR PREC,2\nKK X\nQI 9\nZZ\n";
+
+static void cards_behind(const char *cards)
 {
-    static const char cards[] = "PI 1,1\nUI 9\nLU 0,0\n*FREE\nPI 1,1\nUI 9\nLU 0,0\nPB 5\n";
-    deck.ntail = (int)sizeof cards - 1;
-    memcpy(deck.tail, cards, sizeof cards - 1);
+    deck.ntail = (int)strlen(cards);
+    memcpy(deck.tail, cards, strlen(cards));
 }
 
 /* A deck from a network with a block to be named, whose place is returned. */
-static int aimed_deck(int big)
+static int aimed_deck(int (*network)(Net *), const char *behind)
 {
     int aimed;
     do {
-        aimed = big ? sheet_big_net(&net) : sheet_net(&net);
+        aimed = network(&net);
         style_random(&style);
         deck_write(&deck, &net, &style);
         if (pct(8))
-            cards_behind();
+            cards_behind(behind);
     } while (deck_bytes(&deck, bytes) > LIMIT_BYTES);
     fill_to = rnd(100) == 0 ? LIMIT_BYTES : 0;
     return aimed;
 }
 
 /* The deck of a case; the block that is to be named, or 0 where it is any. */
-static int sheet_deck(void)
+static int case_deck(int (*network)(Net *), const char *behind)
 {
     int r = rnd(100), aimed = 0, number;
     if (r < 15) {
@@ -387,7 +391,7 @@ static int sheet_deck(void)
         base_for(number);
         damage(&deck, &net, &style, number);
     } else {
-        aimed = aimed_deck(0);
+        aimed = aimed_deck(network, behind);
         if (r < 35)
             deck_mutate_lines(&deck);
     }
@@ -403,11 +407,25 @@ static void sheets(uint64_t seed, int count)
         rng_seed(seed, ((uint64_t)7 << 40) + (uint64_t)i);
         fill_to = 0;
         if (i % 1000 == 500) {
-            block = (uint32_t)aimed_deck(1);
+            block = (uint32_t)aimed_deck(sheet_big_net, block_cards);
             ratio = (uint32_t)rnd(net.njr + 1);
         } else {
-            sheet_named(&net, sheet_deck(), &block, &ratio);
+            sheet_named(&net, case_deck(sheet_net, block_cards), &block, &ratio);
         }
+        number4(block);
+        number4(ratio);
+        out_deck(finish());
+    }
+}
+
+static void hydrographs(uint64_t seed, int count)
+{
+    int i;
+    uint32_t block, ratio;
+    for (i = 0; i < count; i++) {
+        rng_seed(seed, ((uint64_t)8 << 40) + (uint64_t)i);
+        fill_to = 0;
+        hydrograph_named(&net, case_deck(hydrograph_net, run_cards), &block, &ratio);
         number4(block);
         number4(ratio);
         out_deck(finish());
@@ -847,6 +865,8 @@ int main(int argc, char **argv)
             moves(seed, count);
         } else if (!strcmp(what, "sheets")) {
             sheets(seed, count);
+        } else if (!strcmp(what, "hydrographs")) {
+            hydrographs(seed, count);
         } else if (!strcmp(what, "pairs")) {
             pairs(seed, count);
         } else if (!strcmp(what, "one")) {

@@ -79,6 +79,8 @@ void net_deepest_first(Net *n);
 int net_held(const Net *n);        /* most hydrographs held in deck order */
 int rm_pick(int m, int how, int *rn, int *rk, int *rx);
 void net_routing(Net *n, Block *b);
+int net_any(const Net *n, int kind);         /* any block of a kind, or -1 */
+int net_place(const Net *n, int block);      /* where it stands in the deck, from 1 */
 
 /* ---- ponds ---- */
 enum { PONDS_LIMITED, PONDS_FITTED, PONDS_ANY };
@@ -157,9 +159,15 @@ typedef struct {
 
 void move_case(Move *m, unsigned char *file);        /* file: LIMIT_MOVER bytes */
 
-/* ---- cases of the sheet ---- */
-int sheet_net(Net *n);             /* the place in the deck, from 1, of the block that is to be named */
+/* ---- cases of the sheet and of the hydrograph ---- */
+/* Networks return the place in the deck, from 1, of the block that is to be named. */
+int sheet_net(Net *n);
 int sheet_big_net(Net *n);
+int hydrograph_net(Net *n);
 void sheet_named(const Net *n, int aimed, uint32_t *block, uint32_t *ratio);
+void hydrograph_named(const Net *n, int aimed, uint32_t *block, uint32_t *ratio);
+uint32_t ratio_named(const Net *n);
+uint32_t far_above(void);          /* a number far above every count */
+void one_above(const Net *n, uint32_t *block, uint32_t *ratio);   /* both by one */
 
 #endif

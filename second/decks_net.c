@@ -959,3 +959,24 @@ int net_held(const Net *n)
 {
     return need(n, root_of(n));
 }
+
+/* ---- blocks to be named ---- */
+
+/* Any block of a kind: the place among the blocks, or -1 where there is none. */
+int net_any(const Net *n, int kind)
+{
+    int i, found[LIMIT_BLOCKS + 2], count = 0;
+    for (i = 0; i < n->nb; i++)
+        if (n->b[i].kind == kind)
+            found[count++] = i;
+    return count > 0 ? found[rnd(count)] : -1;
+}
+
+/* where a block stands in the deck, from 1 */
+int net_place(const Net *n, int block)
+{
+    int i = 0;
+    while (n->order[i] != block)
+        i++;
+    return i + 1;
+}

@@ -10,32 +10,13 @@ static int least(int a, int b)
 
 /* ---- the network around the block ---- */
 
-/* A runoff block of the network: the place among its blocks, or -1. */
-static int any_runoff(const Net *n)
-{
-    int i, runoffs[LIMIT_BLOCKS + 2], count = 0;
-    for (i = 0; i < n->nb; i++)
-        if (n->b[i].kind == 1)
-            runoffs[count++] = i;
-    return count > 0 ? runoffs[rnd(count)] : -1;
-}
-
-/* where a block stands in the deck, from 1 */
-static int deck_place(const Net *n, int block)
-{
-    int i = 0;
-    while (n->order[i] != block)
-        i++;
-    return i + 1;
-}
-
 /* A few blocks with little flow, one of them runoff, whose place is returned. */
 static int few_blocks(Net *n, int most)
 {
     int block;
     do {
         net_random(n, pct(20) ? 1 : between(1, most), 0, 8, FLOW_SMALL, 25);
-        block = any_runoff(n);
+        block = net_any(n, 1);
     } while (block < 0);
     return block;
 }
@@ -48,7 +29,7 @@ static int many_blocks(Net *n)
         net_random(n, between(150, LIMIT_BLOCKS), 0, 3, FLOW_SMALL, 25);
         for (block = n->nb - 1; block >= 0 && n->b[block].kind != 1; block--)
             ;
-    } while (block < 0 || deck_place(n, block) < 128);
+    } while (block < 0 || net_place(n, block) < 128);
     return block;
 }
 
@@ -271,7 +252,7 @@ int sheet_net(Net *n)
         block = pct(2) ? many_blocks(n) : few_blocks(n, 6);
     aim(n, &n->b[block], at);
     net_ponds(n, PONDS_FITTED);                    /* ponds below it have other water now */
-    return deck_place(n, block);
+    return net_place(n, block);
 }
 
 /* The longest sheet: rain in each of 300 intervals and 150 unit ordinates. */
@@ -291,13 +272,13 @@ int sheet_big_net(Net *n)
     unit_values(b, LIMIT_UNITS, MODERATE_UNIT);
     no_losses(b);
     net_ponds(n, PONDS_FITTED);
-    return deck_place(n, block);
+    return net_place(n, block);
 }
 
 /* ---- which block and ratio ---- */
 
 /* far above every count; some are 0 in their low bytes */
-static uint32_t far_above(void)
+uint32_t far_above(void)
 {
     static const uint32_t far[] = { 0xFFFFFFFFu, 0x80000000u, 65536u, 256u, 201u, 1000u };
     return far[rnd(6)];
@@ -312,13 +293,31 @@ static int other_kind(const Net *n)
     return place + 1;
 }
 
+/* one of the ratios mostly, also as 0 or as the last, else one that is not there */
+uint32_t ratio_named(const Net *n)
+{
+    int r = rnd(100), ratios = n->njr > 0 ? n->njr : 1;
+    uint32_t ratio = (uint32_t)between(1, ratios);
+    if (r >= 65) ratio = 0;
+    if (r >= 86) ratio = (uint32_t)ratios;
+    if (r >= 95) ratio = (uint32_t)ratios + 1;
+    if (r >= 98) ratio = far_above();
+    return ratio;
+}
+
+void one_above(const Net *n, uint32_t *block, uint32_t *ratio)
+{
+    *block = (uint32_t)n->nb + 1;
+    *ratio = (uint32_t)(n->njr > 0 ? n->njr : 1) + 1;
+}
+
 /* The aimed block mostly, or any runoff block where none is aimed at (0). */
 void sheet_named(const Net *n, int aimed, uint32_t *block, uint32_t *ratio)
 {
-    int r = rnd(100), ratios = n->njr > 0 ? n->njr : 1, both = pct(2);
+    int r = rnd(100), both = pct(2);
     if (aimed == 0) {
-        int any = any_runoff(n);
-        aimed = any < 0 ? between(1, n->nb) : deck_place(n, any);
+        int any = net_any(n, 1);
+        aimed = any < 0 ? between(1, n->nb) : net_place(n, any);
     }
     *block = (uint32_t)aimed;
     if (r >= 80) *block = (uint32_t)other_kind(n);
@@ -326,14 +325,7 @@ void sheet_named(const Net *n, int aimed, uint32_t *block, uint32_t *ratio)
     if (r >= 93) *block = (uint32_t)n->nb;
     if (r >= 95) *block = (uint32_t)n->nb + 1;
     if (r >= 98) *block = far_above();
-    r = rnd(100);
-    *ratio = (uint32_t)between(1, ratios);
-    if (r >= 65) *ratio = 0;
-    if (r >= 86) *ratio = (uint32_t)ratios;
-    if (r >= 95) *ratio = (uint32_t)ratios + 1;
-    if (r >= 98) *ratio = far_above();
-    if (both) {
-        *block = (uint32_t)n->nb + 1;
-        *ratio = (uint32_t)ratios + 1;
-    }
+    *ratio = ratio_named(n);
+    if (both)
+        one_above(n, block, ratio);
 }

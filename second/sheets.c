@@ -47,7 +47,7 @@ static const struct room *room_for_all(void)
 
 /* Goes through an accepted deck as a pass does, up to the line that closes the
  * block, and keeps the block. */
-static void find_block(const struct sheet_case *sheet, unsigned number,
+static void find_block(const struct named_case *sheet, unsigned number,
                        struct asked *asked)
 {
     static struct run run;
@@ -69,7 +69,7 @@ static void find_block(const struct sheet_case *sheet, unsigned number,
     asked->minutes = run.minutes;
 }
 
-static void ask(const struct sheet_case *sheet, struct named named,
+static void ask(const struct named_case *sheet, struct named named,
                 struct asked *asked)
 {
     const struct room *room = room_for_all();
@@ -494,7 +494,7 @@ static size_t text_by(const struct sheet_rule *rule, const struct asked *asked,
     return (size_t)(page.at - text);
 }
 
-static bool tells_apart(const struct sheet_case *sheet,
+static bool tells_apart(const struct named_case *sheet,
                         const struct asked *asked,
                         const struct sheet_rule *rule, const char *right,
                         size_t length)
@@ -588,7 +588,7 @@ static void count_sheet_names(const struct asked *asked)
 }
 
 /* A case that is refused by 17 says no counts: the deck is asked once more. */
-static void count_above(const struct sheet_case *sheet, struct named named)
+static void count_above(const struct named_case *sheet, struct named named)
 {
     static struct asked last;
     bool block, ratio;
@@ -603,7 +603,7 @@ static void count_above(const struct sheet_case *sheet, struct named named)
     count_if(above_all_counts(named), &namings[FAR_ABOVE]);
 }
 
-static void count_names(const struct sheet_case *sheet,
+static void count_names(const struct named_case *sheet,
                         const struct asked *asked)
 {
     const struct answer *answer = &asked->answer;
@@ -846,7 +846,7 @@ static void count_edges(const struct asked *asked, size_t length)
 
 /* ---- The cases -------------------------------------------------------- */
 
-static void look_at(const struct sheet_case *sheet, bool text_alone)
+static void look_at(const struct named_case *sheet, bool text_alone)
 {
     static struct asked asked;
     static char right[TEXT_ROOM];
@@ -920,14 +920,14 @@ static unsigned print_all(void)
 
 int main(int argc, char **argv)
 {
-    static struct sheet_case sheet;
+    static struct named_case sheet;
     bool text_alone = argc == 2 && strcmp(argv[1], "--text") == 0;
 
     if (argc > 1 && !text_alone) {
         fputs("sheets: unknown option\n", stderr);
         return 2;
     }
-    while (next_sheet("sheets", &sheet))
+    while (next_named("sheets", &sheet))
         look_at(&sheet, text_alone);
     return text_alone ? 0 : print_all() > 0;
 }
