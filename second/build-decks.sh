@@ -1,5 +1,5 @@
 #!/bin/sh
-# Builds the deck writer, the pair checker and the counters of losses, ratios, moves, sheets, ponds and zeros into target/second.
+# Builds the deck writer, the pair checker and the counters of losses, ratios, moves, sheets, hydrographs, ponds and zeros into target/second.
 set -eu
 root=$(CDPATH= cd -- "$(dirname -- "$0")/.." && pwd)
 out=$root/target/second
@@ -12,7 +12,7 @@ $cc $flags -o "$out/decks" "$root/second/decks.c" "$root/second/decks_net.c" "$r
 if [ -f "$root/second/check-pairs.c" ]; then
     $cc $flags -o "$out/check-pairs" "$root/second/check-pairs.c"
 fi
-for counter in losses ratios sheets; do
+for counter in losses ratios sheets hydrographs; do
     $cc $flags -o "$out/$counter" "$root/second/$counter.c" "$root/second/cards.c" \
         "$root/second/pond.c" "$root/second/bundle.c"
 done

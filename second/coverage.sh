@@ -1,25 +1,26 @@
 #!/bin/sh
-# coverage.sh [--program PROGRAM] [SEED [BUNDLE [CASES [PAIRS [MOVES [SHEETS]]]]]]
+# coverage.sh [--program PROGRAM] [SEED [BUNDLE [CASES [PAIRS [MOVES [SHEETS [HYDROGRAPHS]]]]]]]
 # Writes decks and files of records, runs them through the second program and
 # counts the answers.
 # The program is target/second/hec1, built here, or the one named with --program.
 # Fails when a refusal is missing, one that depends on rooms in the cases, any
 # other in the bundle, one of the mover in the moves, any but that of short work
-# words in the cases of the sheet, when the bundle's accepted decks lack a way
-# in which an initial loss is filled or do not tell a wrong rule of loss from
-# the right one, when they lack a sort of JR or do not tell a wrong rule of
-# ratios from the right one, when none of its refused decks depends on the first
-# or on the last ratio being looked at, when they lack an edge of ponds or a
-# fault of theirs or do not tell a wrong rule of ponds from the right one, when
-# they lack a field or a number with zeros past its places, a number refused for
-# what it is with zeros, or do not tell a wrong rule of zeros from the right one,
-# when a number is not read by that rule as its counter states it, when no pair
-# has ponds or none has such zeros in one deck alone, when the moves lack a sort
-# of file or room, or faults beside one another, or do not tell a wrong rule of
-# the mover from the right one, when the cases of the sheet lack an edge or do
-# not tell a wrong rule from the right one, when a sheet is not the one that its
-# counter works out, when a sound or a long deck is refused, or when a pair is
-# violated.
+# words in the cases of the sheet and in those of the hydrograph, when the
+# bundle's accepted decks lack a way in which an initial loss is filled or do
+# not tell a wrong rule of loss from the right one, when they lack a sort of JR
+# or do not tell a wrong rule of ratios from the right one, when none of its
+# refused decks depends on the first or on the last ratio being looked at, when
+# they lack an edge of ponds or a fault of theirs or do not tell a wrong rule of
+# ponds from the right one, when they lack a field or a number with zeros past
+# its places, a number refused for what it is with zeros, or do not tell a wrong
+# rule of zeros from the right one, when a number is not read by that rule as
+# its counter states it, when no pair has ponds or none has such zeros in one
+# deck alone, when the moves lack a sort of file or room, or faults beside one
+# another, or do not tell a wrong rule of the mover from the right one, when the
+# cases of the sheet or those of the hydrograph lack an edge or do not tell a
+# wrong rule from the right one, when a sheet is not the one that its counter
+# works out or a hydrograph not the one that its counter writes, when a sound or
+# a long deck is refused, or when a pair is violated.
 set -u
 root=$(CDPATH= cd -- "$(dirname -- "$0")/.." && pwd)
 . "$root/second/kit.sh" || exit 2
@@ -34,6 +35,7 @@ cases=${3:-2000}
 pairs=${4:-2000}
 moves=${5:-4000}
 sheets=${6:-2000}
+hydrographs=${7:-2000}
 decks=$root/target/second/decks
 sh "$root/second/build-decks.sh" || exit 2
 if [ -z "$hec1" ]; then
@@ -105,6 +107,13 @@ check "$root/target/second/moves" < "$work/decks"
 check count sheets "$(sheet_refusals)" < "$work/out"
 check "$root/target/second/sheets" < "$work/decks"
 "$root/target/second/sheets" --text < "$work/decks" > "$work/text" || failed=$((failed + 1))
+check cmp "$work/text" "$work/out"
+
+"$decks" hydrographs "$seed" "$hydrographs" > "$work/decks"
+"$hec1" --hydrograph < "$work/decks" > "$work/out" || failed=$((failed + 1))
+check count hydrographs "$(sheet_refusals)" < "$work/out"
+check "$root/target/second/hydrographs" < "$work/decks"
+"$root/target/second/hydrographs" --text < "$work/decks" > "$work/text" || failed=$((failed + 1))
 check cmp "$work/text" "$work/out"
 
 "$decks" sound "$seed" "$pairs" > "$work/decks"

@@ -20,7 +20,7 @@ deck_refusals() {
     numbers 1 "$refusals" | awk -v rooms=" $room_refusals " '!index(rooms, " " $1 " ") { printf "%s ", $1 }'
 }
 
-# sheet_refusals: what a case of the sheet can be refused with: the same, and 17 for a block or ratio above the count
+# sheet_refusals: what a case of the sheet or of the hydrograph can be refused with: the same, and 17 for a block or ratio above the count
 sheet_refusals() { echo "$(deck_refusals)17"; }
 
 # find_kit: sets rt, and from its place tools, loader and, where the machine is not x86-64, emulator. Fails where there is no kit.

@@ -14,6 +14,7 @@ losses=$out/losses-checked
 ratios=$out/ratios-checked
 moves=$out/moves-checked
 sheets=$out/sheets-checked
+hydrographs=$out/hydrographs-checked
 ponds=$out/ponds-checked
 zeros_counter=$out/zeros-checked
 decks=$out/decks-checked
@@ -39,6 +40,7 @@ build "$ponds" ponds.c cards.c bundle.c
 build "$zeros_counter" zeros.c pond.c bundle.c
 build "$moves" moves.c mover.c bundle.c
 build "$sheets" sheets.c cards.c pond.c bundle.c
+build "$hydrographs" hydrographs.c cards.c pond.c bundle.c
 build "$decks" decks.c decks_net.c decks_ponds.c decks_write.c decks_damage.c decks_damage_ponds.c decks_moves.c decks_sheets.c \
     decks_hydrographs.c decks_zeros.c
 
@@ -2719,6 +2721,54 @@ cmp -s "$scratch/fewer" <(head -c $(($(wc -c <"$scratch/fewer"))) "$scratch/case
 check 'sheets: the same seed begins alike' 0 $?
 "$decks" sheets 3 200 | cmp -s - "$scratch/fewer"
 check 'sheets: another seed does not' 1 $?
+
+# The counter of hydrographs.  RIV of document 01, in free form, and its last
+# block, with an IT behind ZZ; a block one above the count; a runoff under the
+# second of three ratios, 1.00; flows of 29, 30 and 31 units in an interval of a
+# minute; and far above every count in a deck that is refused with 10.
+known=$(sheet_of 2 0 "$pond")$(sheet_of 0 1 "${pond}IT 15,,,2\n")$(sheet_of 5 0 "$pond")$(sheet_of 1 2 "$jr_runoff")
+known+=$(sheet_of 0 0 "$(runoff 1 4 ,.0059 .0001 .29,.3,.31)")$(sheet_of 1000 0 "${pond/HC 2/HC 3}")
+# all, texts of kinds 1 to 5, refused by 2 to 20
+expected='6,2,0,1,1,0,0,0,0,0,0,0,0,0,1,0,0,0,0,0,0,1,0,0,0,'
+# block 0, the last by its number; ratio 0 of several, without JR, ratio 1 without
+# JR; block, ratio or both one above, ratio 2 without JR, far above, in a refused
+# deck; ratios 1 to 9
+expected+='1,0,0,2,1,1,0,0,0,0,1,0,1,0,0,0,0,0,0,0,'
+# NQ 1 and 300; not 60 minutes, most of them; IT fixed, free, behind ZZ; no flow,
+# zeros behind; a half of runoff, confluence, routing, pond; below, above it;
+# hidden; up to whole cfs, not up to them; the limit; a late block; the longest
+# deck
+expected+='0,0,1,0,0,4,1,0,2,1,0,0,0,1,1,1,0,0,0,0,0,'
+# (a) to (q).  The block before: RIV, OUT; behind: RIV; the last: RIV.  The first
+# ratio and the last: the runoff.  Cut off: the flow of 30 and that of 31; RIV and
+# OUT are rounded down anyway
+expected+='2,1,1,1,1,1,1,1,3,0,3,4,1,4,2,1,1,'
+got=$(printf '%b' "$known" | "$hydrographs" | awk '$1 ~ /^[0-9]/ { printf "%s,", $1 }')
+check 'hydrographs counted' "$expected" "$got"
+printf '%b' "$known" | "$hydrographs" >"$scratch/said"
+check 'hydrographs: a count of 0 fails' 1 $?
+check 'hydrographs: what is missing' "$(grep -o '\b0,' <<<"$expected" | grep -c .)" "$(grep -c ': MISSING$' "$scratch/said")"
+got=$(printf '%b' "$known" | "$hydrographs" --text; echo "status $?")
+check 'hydrographs: the texts' "$(printf '%b' "$known" | "$prog" --hydrograph; echo 'status 0')" "$got"
+for rest in '\x01' "$(le4 1)" "$(le4 1)$(le4 0)" "$(le4 1)$(le4 0)$(le4 3)ZZ"; do
+    printf '%b' "$known$rest" | "$hydrographs" >"$scratch/said" 2>&1
+    check "hydrographs: input cut short $rest" 2 $?
+done
+check 'hydrographs: an unknown option' 2 "$("$hydrographs" --nonsense </dev/null >"$scratch/said" 2>&1; echo $?)"
+# the deck writer's own cases, with memory watched
+"$decks" hydrographs 2 600 >"$scratch/cases"
+"$prog" --hydrograph <"$scratch/cases" >"$scratch/said"
+check 'hydrographs: the status on written cases' 0 $?
+"$hydrographs" --text <"$scratch/cases" | cmp -s - "$scratch/said"
+check 'hydrographs: the program and the counter agree' 0 $?
+"$hydrographs" <"$scratch/cases" >"$scratch/said"
+check 'hydrographs: all written cases are looked at' 600 "$(awk '$2 == "all" { print $1 }' "$scratch/said")"
+check 'hydrographs: no wrong rule is left' '' "$(grep '(.*: MISSING' "$scratch/said")"
+"$decks" hydrographs 2 200 >"$scratch/fewer"
+cmp -s "$scratch/fewer" <(head -c $(($(wc -c <"$scratch/fewer"))) "$scratch/cases")
+check 'hydrographs: the same seed begins alike' 0 $?
+"$decks" hydrographs 3 200 | cmp -s - "$scratch/fewer"
+check 'hydrographs: another seed does not' 1 $?
 
 # ---- Fuzz ----------------------------------------------------------------
 
