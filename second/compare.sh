@@ -1,19 +1,22 @@
 #!/bin/sh
-# compare.sh [--program PROGRAM] [SEED [BUNDLE [CASES [PAIRS [MOVES [SHEETS]]]]]]
+# compare.sh [--program PROGRAM] [SEED [BUNDLE [CASES [PAIRS [MOVES [SHEETS [HYDROGRAPHS]]]]]]]
 # Runs the proved programs and the second program on the same decks and compares what they print, byte by byte.
 # By default 20,000 decks of all sorts, 2,000 cases with rooms of all sizes, 4,000 files of records to move, 2,000 decks
-# with a block and a ratio to make a sheet of, 2,000 pairs of decks that draw one network (which must also answer as
-# such), and a few decks, one at a time, on both sides of 60,000 bytes, one of them with the most blocks and ratios that
-# there can be, one with the most ponds, one with zeros past the places of every value of its lists.
+# with a block and a ratio to make a sheet of, 2,000 with those of a hydrograph, every block of every deck of examples/
+# under every ratio (whose hydrograph must also be the one that the listing sums up), 2,000 pairs of decks that draw one
+# network (which must also answer as such), and a few decks, one at a time, on both sides of 60,000 bytes, one of them
+# with the most blocks and ratios that there can be, one with the most ponds, one with zeros past the places of every
+# value of its lists.
 # Fails too when a refusal is missing: one that depends on rooms in the cases, any other in the bundle, one of the mover
-# in the moves, any but that of short work words in the sheets; when the bundle lacks an edge or a fault of ponds, or a number
-# with zeros past its places or refused with them, or does not tell a wrong rule of either from the right one; and when the
-# pairs have none with such zeros in one deck alone.
-# The last line is 'N passed, M failed', where each deck, case, file, sheet and pair counts as one; the exit status
-# agrees with it.
+# in the moves, any but that of short work words in the sheets and in the hydrographs; when the bundle lacks an edge or a
+# fault of ponds, or a number with zeros past its places or refused with them, or does not tell a wrong rule of either from
+# the right one; when the hydrographs lack an edge or do not tell a wrong rule; and when the pairs have none with such
+# zeros in one deck alone.
+# The last line is 'N passed, M failed', where each deck, case, file, sheet, hydrograph and pair counts as one; the exit
+# status agrees with it.
 #
-# --program, to try this script itself: a program to start in place of the proved ones (with --bundle, --cases, --mover
-# or --sheet).
+# --program, to try this script itself: a program to start in place of the proved ones (with --bundle, --cases, --mover,
+# --sheet or --hydrograph).
 set -u
 root=$(CDPATH="" cd -- "$(dirname -- "$0")/.." && pwd -P) || exit 2
 . "$root/second/kit.sh" || exit 2
@@ -28,6 +31,7 @@ cases=${3:-2000}
 pairs=${4:-2000}
 moves=${5:-4000}
 sheets=${6:-2000}
+hydrographs=${7:-2000}
 second=$root/target/second/hec1
 decks=$root/target/second/decks
 work=$(mktemp -d) || exit 2
@@ -48,7 +52,7 @@ sh "$root/second/build-decks.sh" || die "the deck writer was not built"
 
 if [ -z "$program" ]; then
     find_kit || die "$no_kit"
-    (cd "$root" && "$rt" check hec1 bundle rooms mover sheet) >"$work/log" 2>&1 ||
+    (cd "$root" && "$rt" check hec1 bundle rooms mover sheet hydrograph) >"$work/log" 2>&1 ||
         { tail -n 5 "$work/log" >&2; die "the programs were not proved and built"; }
 fi
 
@@ -62,6 +66,7 @@ proved() {
         rooms) "$program" --cases ;;
         mover) "$program" --mover ;;
         sheet) "$program" --sheet ;;
+        hydrograph) "$program" --hydrograph ;;
         *) "$program" ;;
         esac
     fi
@@ -139,7 +144,7 @@ counted() {
     fi
 }
 
-# ---- bundle, cases, moves, sheets, pairs
+# ---- bundle, cases, moves, sheets, hydrographs, pairs
 
 "$decks" bundle "$seed" "$bundle" >"$work/decks" || die "the deck writer failed"
 both bundle --bundle
@@ -159,6 +164,11 @@ compare moves "$moves" "$mover_refusals"
 both sheet --sheet
 compare sheets "$sheets" "$(sheet_refusals)"
 
+"$decks" hydrographs "$seed" "$hydrographs" >"$work/decks" || die "the deck writer failed"
+both hydrograph --hydrograph
+compare hydrographs "$hydrographs" "$(sheet_refusals)"
+counted hydrographs
+
 "$decks" pairs "$seed" "$pairs" >"$work/decks" || die "the deck writer failed"
 both bundle --bundle
 compare pairs $((2 * pairs)) 11
@@ -172,6 +182,78 @@ else
     failed=$((failed + violated))
 fi
 counted zeros --pairs
+
+# ---- the hydrographs of examples/
+
+# four NUMBER: in 4 bytes, the lowest first
+four() {
+    # shellcheck disable=SC2059
+    printf "$(printf '\\%03o\\%03o\\%03o\\%03o' $(($1 % 256)) $(($1 / 256 % 256)) $(($1 / 65536 % 256)) $(($1 / 16777216)))"
+}
+
+# every_block DECK: a case for each line of its listing, which is in $work/listing
+every_block() {
+    size=$(($(wc -c <"$1")))
+    blocks=$(sed -n 's/^END //p' "$work/listing")
+    ratios=$(grep -c '^RATIO ' "$work/listing")
+    if [ "$ratios" = 0 ]; then ratios=1; fi
+    for ratio in $(numbers 1 "$ratios"); do
+        for block in $(numbers 1 "$blocks"); do
+            four "$block"
+            four "$ratio"
+            four "$size"
+            cat "$1"
+        done
+    done
+}
+
+# summed_up: each text in $work/proved must have the sum, the peak and the peak's interval of its line in $work/lines
+summed_up() {
+    awk -F, -v lines="$work/lines" '
+        $0 == "interval,minutes,cfs,units" { sum = interval = 0; peak = -1; next }
+        $0 == "--" {
+            line = ""
+            getline line < lines
+            split(line, listed, " ")
+            hundredths = int((peak + 300000) / 600000)
+            text = sprintf("%d.%02d", int(hundredths / 100), hundredths % 100)
+            if (listed[4] "" == text && listed[5] == interval && listed[6] == sum) good++
+            else if (++bad <= 5)
+                printf "    text %d: peak %s in %d, sum %.0f, and the listing: %s\n", good + bad, text, interval, sum, line
+            sum = peak = interval = ""
+            next
+        }
+        { sum += $4; if ($4 + 0 > peak) { peak = $4 + 0; interval = $1 } }
+        END { print good + 0, bad + 0 }' "$work/proved" >"$work/said"
+    sed '$d' "$work/said"
+    read -r good bad <<EOF
+$(tail -n 1 "$work/said")
+EOF
+    passed=$((passed + good))
+    failed=$((failed + bad))
+}
+
+: >"$work/cases"
+: >"$work/lines"
+find "$root/examples" -name '*.hc1' | sort >"$work/examples"
+while IFS= read -r deck; do
+    cp "$deck" "$work/decks"
+    both hec1 ''
+    if ! cmp -s "$work/proved" "$work/second"; then
+        failed=$((failed + 1))
+        echo "    the listings of ${deck#"$root/"} differ"
+    fi
+    if grep -q '^REFUSED ' "$work/proved"; then continue; fi
+    mv "$work/proved" "$work/listing"
+    awk 'NF == 6' "$work/listing" >>"$work/lines"
+    every_block "$deck" >>"$work/cases"
+done <"$work/examples"
+mv "$work/cases" "$work/decks"
+texts=$(($(wc -l <"$work/lines")))
+[ "$texts" -gt 0 ] || die "no deck of examples/ is accepted"
+both hydrograph --hydrograph
+compare examples "$texts" ''
+summed_up
 
 # ---- one at a time
 
