@@ -2454,6 +2454,10 @@ no_hydrograph 13 12 "${near_limit/'QI 99999'/'QI 100000'}" 1
 hydrograph '1,60,100000.000000,6000000000000\n2,120,99999.990000,5999999400000\n' '*FREE\nIT 60,,,2\nKK A\nQI 100000,99999.99\nZZ\n'
 hydrograph '1,60,0.010000,600000\n2,120,10.100000,606000000\n' '*FREE\nIT 60,,,2\nKK A\nQI .01,10.1\nZZ\n'
 
+# the listing's peak is rounded from the units, not from the six places
+hydrograph '1,1,0.005000,299970\n' "$(runoff 1 1 ,.0059 .0001 2999.7)"
+lists 'A 1 1.00 0.00 1 299970\nEND 1\n' "$(runoff 1 1 ,.0059 .0001 2999.7)"
+
 # minutes, in both forms and as IT spells them; no flow at all; 1 and 300 lines
 of_minutes() { printf '%sKK A\\nQI\\nZZ\\n' "$1"; }
 hydrograph '1,1,0.000000,0\n2,2,0.000000,0\n' "$(of_minutes '*FREE\nIT 1,,,2\n')"
