@@ -56,8 +56,10 @@ static void at_a_half(Net *n, Block *b)
     int i, few = pct(30);
     one_shower(n, b, few ? 0 : between(0, 1000));
     b->nui = between(1, 8);
-    for (i = 0; i < b->nui; i++)
-        b->ui[i] = (few ? 0 : 60 * rnd(80)) + (pct(70) ? between(29, 31) : rnd(60));
+    for (i = 0; i < b->nui; i++) {
+        b->ui[i] = few ? 0 : 60 * rnd(80);
+        b->ui[i] += pct(70) ? between(29, 31) : rnd(60);
+    }
 }
 
 /* A flow that is 1 to 31 units short of whole cfs: up to 30 it is rounded up to
@@ -67,7 +69,8 @@ static void nearly_whole(Net *n, Block *b)
     int tries;
     at_a_half(n, b);
     for (tries = 0; tries < 5000; tries++) {
-        int unit = 60 * rnd(pct(50) ? 5 : 50) + between(29, pct(50) ? 31 : 59);
+        int unit = 60 * rnd(pct(50) ? 5 : 50);
+        unit += between(29, pct(50) ? 31 : 59);
         int64_t flow = FLOW_CFS * between(1, 60) - (60 - unit % 60);
         if (flow % unit != 0 || flow / unit % 60 != 1 || flow / unit > 60 * (LIMIT_PI - 2000))
             continue;
@@ -104,7 +107,7 @@ static void it_values(Net *n, int aim)
 
 int hydrograph_net(Net *n)
 {
-    int aim = pick_aim(), block;
+    int aim = pick_aim(), block, drawn;
     it_values(n, aim);
     switch (aim) {
     case MANY_BLOCKS:
@@ -120,11 +123,13 @@ int hydrograph_net(Net *n)
         net_ponds(n, PONDS_FITTED);                /* ponds below it have other water now */
         break;
     case AT_THE_LIMIT:
-        net_limit(n, between(1, 6), pct(70) ? 0 : -1);
+        drawn = between(1, 6);
+        net_limit(n, drawn, pct(70) ? 0 : -1);
         block = n->order[n->nb - 1];
         break;
     default:
-        block = few_blocks(n, between(1, 5), pct(50) ? FLOW_SMALL : FLOW_SHARE);
+        drawn = between(1, 5);
+        block = few_blocks(n, drawn, pct(50) ? FLOW_SMALL : FLOW_SHARE);
         break;
     }
     return net_place(n, block);
