@@ -134,10 +134,13 @@ int damage6_pond(Deck *d, const Style *s)
     if (pct(25) && !damage7_pond(d, s))            /* and what would be 7 */
         return 0;
     Line *l = &d->l[at];
+    const char *unnamed;
     switch (rnd(3)) {
     case 0: return set_field(l, s, 0, bad[rnd(COUNT(bad))]);
     case 1: return set_field(l, s, 2, bad[rnd(COUNT(bad))]);
-    default: return set_field(l, s, between(3, pct(70) ? 3 : 9), pct(50) ? "0" : pct(50) ? "1" : "X");
+    default:
+        unnamed = pct(50) ? "0" : pct(50) ? "1" : "X";
+        return set_field(l, s, between(3, pct(70) ? 3 : 9), unnamed);
     }
 }
 

@@ -143,13 +143,15 @@ static const int minutes_of_a_half[] = { 1, 1, 1, 2, 3, 5, 6, 10, 15, 30 };
    the rest of its unit ordinate by 60; or it leaves half of one. */
 static void at_a_half(Net *n, Block *b)
 {
-    int i, rest = pct(70) ? between(29, 31) : rnd(60);
+    int i, at, most, rest = pct(70) ? between(29, 31) : rnd(60);
     if (pct(70))
         n->njr = 0;
     b->has_pb = b->lu1 = 0;
     b->lu2 = n->m == 1 && pct(80) ? 59 : 30 / n->m;
-    rain_values(b, between(1, n->nq), pct(50) ? 20 : MODERATE_RAIN);
-    b->pi[rnd(b->npi)] = between(1, 20);
+    most = pct(50) ? 20 : MODERATE_RAIN;
+    rain_values(b, between(1, n->nq), most);
+    at = rnd(b->npi);
+    b->pi[at] = between(1, 20);
     unit_values(b, between(1, 8), MODERATE_UNIT / 60);
     for (i = 0; i < b->nui; i++)
         b->ui[i] = 60 * (b->ui[i] - 1) + (pct(80) ? rest : between(29, 31));
