@@ -14,8 +14,8 @@ if [ -f "$root/second/check-pairs.c" ]; then
 fi
 for counter in losses ratios sheets hydrographs; do
     $cc $flags -o "$out/$counter" "$root/second/$counter.c" "$root/second/cards.c" \
-        "$root/second/pond.c" "$root/second/bundle.c"
+        "$root/second/records.c" "$root/second/pond.c" "$root/second/bundle.c"
 done
-$cc $flags -o "$out/ponds" "$root/second/ponds.c" "$root/second/cards.c" "$root/second/bundle.c"
-$cc $flags -o "$out/zeros" "$root/second/zeros.c" "$root/second/pond.c" "$root/second/bundle.c"
+$cc $flags -o "$out/ponds" "$root/second/ponds.c" "$root/second/cards.c" "$root/second/records.c" "$root/second/bundle.c"
+$cc $flags -o "$out/zeros" "$root/second/zeros.c" "$root/second/records.c" "$root/second/pond.c" "$root/second/bundle.c"
 $cc $flags -o "$out/moves" "$root/second/moves.c" "$root/second/mover.c" "$root/second/bundle.c"

@@ -1,14 +1,15 @@
 /* The hydrograph engine; see engine.h.  The first part holds the water
  * (document 01, 'Water, in whole units'; document 02, CR 1, for rain that
  * comes as a total and a pattern, CR 2 for the losses and CR 3 for ratios of
- * the rain; ponds, CR 6, have a file of their own), the second the records and
- * their limits, the third the blocks, the passes over the deck and the order of
+ * the rain; ponds, CR 6, have a file of their own), the second reads records
+ * (whose limits have a file of their own too), the third the blocks, the passes over the deck and the order of
  * the refusals ('What comes back'; CR 4 for the record that says its ratio).
  * Functions that can refuse return the refusal's number, 0 if none. */
 #include "engine.h"
 
 #include "cards.h"
 #include "pond.h"
+#include "records.h"
 
 #include <stdbool.h>
 #include <string.h>
@@ -261,111 +262,7 @@ static enum refusal summarise(const uint64_t *flow, unsigned nq,
     return ACCEPTED;
 }
 
-/* ---- Records and their limits ----------------------------------------- */
-
-enum record {
-    REC_UNKNOWN,
-    REC_FREE,
-    REC_FIX,
-    REC_ID,
-    REC_IT,
-    REC_JR,
-    REC_KK,
-    REC_KM,
-    REC_ZZ,
-    REC_BA,
-    REC_PB,
-    REC_PI,
-    REC_LU,
-    REC_UI,
-    REC_QI,
-    REC_HC,
-    REC_RM,
-    REC_RS,
-    REC_SV,
-    REC_SQ
-};
-
-/* Limits are counted in units of the last place, as read_number counts. */
-struct rule {
-    uint8_t places;
-    bool unread;
-    int64_t low;
-    int64_t high;
-};
-
-enum { NAMED_FIELD_LIMIT = 4 };
-
-/* A record whose fields each have a meaning; those behind are to be blank. */
-struct form {
-    unsigned fields;
-    struct rule rule[NAMED_FIELD_LIMIT];
-};
-
-static const struct form IT_FORM = {
-    4, { { 0, false, 1, 1440 }, { 0, true, 0, 0 }, { 0, true, 0, 0 },
-         { 0, false, 1, ORDINATE_LIMIT } }
-};
-static const struct form BA_FORM = { 1, { { 2, false, 1, 999999 } } };
-static const struct form PB_FORM = { 1, { { 4, false, 0, 1000000 } } };
-static const struct form LU_FORM = {
-    3, { { 4, false, 0, 200000 }, { 4, false, 0, 200000 }, { 2, false, 0, 0 } }
-};
-static const struct form HC_FORM = { 1, { { 0, false, 2, 5 } } };
-static const struct form RM_FORM = {
-    3, { { 0, false, 1, 50 }, { 2, false, 1, 2400 }, { 2, false, 0, 50 } }
-};
-
-static const struct rule PI_RULE = { 4, false, 0, 200000 };
-static const struct rule UI_RULE = { 2, false, 0, 9999999 };
-static const struct rule QI_RULE = { 2, false, 0, 10000000 };
-static const struct rule SV_RULE = { 2, false, 0, 9999999 };
-static const struct rule SQ_RULE = { 2, false, 0, 10000000 };
-static const struct rule RATIO_RULE = { 2, false, 1, 999 };
-
-static bool is_text(struct text line, const char *text, unsigned length)
-{
-    return line.length == length && memcmp(line.at, text, length) == 0;
-}
-
-#define IDENTIFIER(first, second) ((first) << 8 | (second))
-
-/* A line of one byte has a blank second column, which no identifier has. */
-static enum record identify(struct text line)
-{
-    switch (IDENTIFIER(line.at[0], line.length > 1 ? line.at[1] : ' ')) {
-    case IDENTIFIER('I', 'D'): return REC_ID;
-    case IDENTIFIER('I', 'T'): return REC_IT;
-    case IDENTIFIER('J', 'R'): return REC_JR;
-    case IDENTIFIER('K', 'K'): return REC_KK;
-    case IDENTIFIER('K', 'M'): return REC_KM;
-    case IDENTIFIER('Z', 'Z'): return REC_ZZ;
-    case IDENTIFIER('B', 'A'): return REC_BA;
-    case IDENTIFIER('P', 'B'): return REC_PB;
-    case IDENTIFIER('P', 'I'): return REC_PI;
-    case IDENTIFIER('L', 'U'): return REC_LU;
-    case IDENTIFIER('U', 'I'): return REC_UI;
-    case IDENTIFIER('Q', 'I'): return REC_QI;
-    case IDENTIFIER('H', 'C'): return REC_HC;
-    case IDENTIFIER('R', 'M'): return REC_RM;
-    case IDENTIFIER('R', 'S'): return REC_RS;
-    case IDENTIFIER('S', 'V'): return REC_SV;
-    case IDENTIFIER('S', 'Q'): return REC_SQ;
-    case IDENTIFIER('*', 'F'):
-        if (is_text(line, "*FREE", 5))
-            return REC_FREE;
-        if (is_text(line, "*FIX", 4))
-            return REC_FIX;
-        return REC_UNKNOWN;
-    default:
-        return REC_UNKNOWN;
-    }
-}
-
-static bool within(int64_t value, const struct rule *rule)
-{
-    return value >= rule->low && value <= rule->high;
-}
+/* ---- Reading the records ---------------------------------------------- */
 
 /* All fields are read before any is held against its limits, because a
  * malformed field anywhere on the line is answered first. */
@@ -379,7 +276,7 @@ static enum refusal read_form(struct text line, bool free_form,
         return MALFORMED;
     for (unsigned k = 0; k < fields.count; k++) {
         const struct rule *rule = &form->rule[k];
-        if (!rule->unread
+        if (rule->holds == A_NUMBER
             && !read_number(fields.at[k], rule->places, &number[k]))
             return MALFORMED;
     }
@@ -393,9 +290,10 @@ static enum refusal read_form(struct text line, bool free_form,
 
 /* Puts the values of one more line behind those that the list has. */
 static enum refusal read_list(struct text line, bool free_form,
-                              const struct rule *rule, unsigned limit,
+                              const struct form *form, unsigned limit,
                               struct list *list)
 {
+    const struct rule *rule = &form->rule[0];
     struct fields fields;
     int64_t number[FIELD_LIMIT];
 
@@ -419,19 +317,20 @@ static enum refusal read_list(struct text line, bool free_form,
 static enum refusal read_ratios(struct text line, bool free_form,
                                 struct ratios *ratios)
 {
+    const struct rule *word = &JR_FORM.rule[0], *ratio = &JR_FORM.rule[1];
     struct fields fields;
     int64_t number[FIELD_LIMIT];
 
     if (!split_fields(line, free_form, &fields) || fields.count == 0
-        || !is_text(fields.at[0], "PREC", 4))
+        || !is_word(fields.at[0], word))
         return MALFORMED;
     for (unsigned k = 1; k < fields.count; k++)
-        if (!read_number(fields.at[k], RATIO_RULE.places, &number[k]))
+        if (!read_number(fields.at[k], ratio->places, &number[k]))
             return MALFORMED;
     if (fields.count == 1)
         return OUT_OF_LIMITS;
     for (unsigned k = 1; k < fields.count; k++)
-        if (!within(number[k], &RATIO_RULE))
+        if (!within(number[k], ratio))
             return OUT_OF_LIMITS;
     ratios->given = true;
     ratios->count = fields.count - 1;
@@ -445,17 +344,19 @@ static enum refusal read_ratios(struct text line, bool free_form,
  * stands in its field is either the word or outside the limits. */
 static enum refusal read_pond(struct text line, bool free_form)
 {
+    const struct rule *rule = RS_FORM.rule;
     struct fields fields;
     int64_t steps = 0, start = 0;
 
-    if (!split_fields(line, free_form, &fields) || fields.count > 3)
+    if (!split_fields(line, free_form, &fields)
+        || fields.count > RS_FORM.fields)
         return MALFORMED;
-    if (fields.count > 0 && !read_number(fields.at[0], 0, &steps))
+    if (fields.count > 0 && !read_number(fields.at[0], rule[0].places, &steps))
         return MALFORMED;
-    if (fields.count > 2 && !read_number(fields.at[2], 0, &start))
+    if (fields.count > 2 && !read_number(fields.at[2], rule[2].places, &start))
         return MALFORMED;
-    if (steps != 1 || start != 0 || fields.count < 2
-        || !is_text(fields.at[1], "STOR", 4))
+    if (!within(steps, &rule[0]) || !within(start, &rule[2])
+        || fields.count < 2 || !is_word(fields.at[1], &rule[1]))
         return OUT_OF_LIMITS;
     return ACCEPTED;
 }
@@ -786,25 +687,25 @@ static enum refusal take_data(struct run *run, enum record record,
         block->routing = (struct routing){ value[0], value[1], value[2] };
         break;
     case REC_PI:
-        refusal = read_list(line, free_form, &PI_RULE, run->nq, &block->rain);
+        refusal = read_list(line, free_form, &PI_FORM, run->nq, &block->rain);
         break;
     case REC_UI:
-        refusal = read_list(line, free_form, &UI_RULE, UNIT_GRAPH_LIMIT,
+        refusal = read_list(line, free_form, &UI_FORM, UNIT_GRAPH_LIMIT,
                             &block->unit_graph);
         break;
     case REC_QI:
-        refusal = read_list(line, free_form, &QI_RULE, run->nq,
+        refusal = read_list(line, free_form, &QI_FORM, run->nq,
                             &block->inflow);
         break;
     case REC_RS:
         refusal = read_pond(line, free_form);
         break;
     case REC_SV:
-        refusal = read_list(line, free_form, &SV_RULE, ROW_LIMIT,
+        refusal = read_list(line, free_form, &SV_FORM, ROW_LIMIT,
                             &block->storage);
         break;
     case REC_SQ:
-        refusal = read_list(line, free_form, &SQ_RULE, ROW_LIMIT,
+        refusal = read_list(line, free_form, &SQ_FORM, ROW_LIMIT,
                             &block->outflow);
         break;
     default:

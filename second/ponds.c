@@ -376,8 +376,8 @@ static void count_table(const struct pond_cards *cards, uint32_t minutes)
     count_edge(cards->outflow[1] == 0, NO_OUTFLOW);
     count_edge(exact, WORTH_EXACT);
     count_edge(near, WORTH_NEAR);
-    count_edge(cards->storage[rows - 1] == SV_RULE.high
-               && cards->outflow[rows - 1] == SQ_RULE.high, LARGEST);
+    count_edge(cards->storage[rows - 1] == SV_FORM.rule[0].high
+               && cards->outflow[rows - 1] == SQ_FORM.rule[0].high, LARGEST);
 }
 
 /* The row that the water is above, from 0, or at. */

@@ -76,8 +76,8 @@ static void count_sorts(const struct ratios *ratios, bool runoff)
         return;
     }
     for (unsigned k = 0; k < ratios->count; k++) {
-        least = least || value[k] == RATIO_RULE.low;
-        most = most || value[k] == RATIO_RULE.high;
+        least = least || value[k] == JR_FORM.rule[1].low;
+        most = most || value[k] == JR_FORM.rule[1].high;
         one = one || value[k] == WHOLE_RATIO;
         equal = equal || (k > 0 && value[k] == value[k - 1]);
         rising = rising && (k == 0 || value[k] > value[k - 1]);

@@ -33,14 +33,14 @@ cd "$here" || exit 1
 . ./kit.sh || exit 1
 # shellcheck disable=SC2086,SC2154
 build "$prog" $sources
-build "$fuzz" fuzz.c engine.c cards.c pond.c mover.c sheet.c hydrograph.c
-build "$losses" losses.c cards.c pond.c bundle.c
-build "$ratios" ratios.c cards.c pond.c bundle.c
-build "$ponds" ponds.c cards.c bundle.c
-build "$zeros_counter" zeros.c pond.c bundle.c
+build "$fuzz" fuzz.c engine.c cards.c records.c pond.c mover.c sheet.c hydrograph.c
+build "$losses" losses.c cards.c records.c pond.c bundle.c
+build "$ratios" ratios.c cards.c records.c pond.c bundle.c
+build "$ponds" ponds.c cards.c records.c bundle.c
+build "$zeros_counter" zeros.c records.c pond.c bundle.c
 build "$moves" moves.c mover.c bundle.c
-build "$sheets" sheets.c cards.c pond.c bundle.c
-build "$hydrographs" hydrographs.c cards.c pond.c bundle.c
+build "$sheets" sheets.c cards.c records.c pond.c bundle.c
+build "$hydrographs" hydrographs.c cards.c records.c pond.c bundle.c
 build "$decks" decks.c decks_net.c decks_ponds.c decks_write.c decks_damage.c decks_damage_ponds.c decks_moves.c decks_sheets.c \
     decks_hydrographs.c decks_zeros.c
 
@@ -1902,7 +1902,7 @@ sed 's/flow\[i + j\] +=/flow[i + j] =/' engine.c >"$scratch/engine.c"
 cmp -s engine.c "$scratch/engine.c"
 check 'an engine is spoilt' 1 $?
 spoilt=$scratch/spoilt
-"${CC:-gcc}" -std=c11 -I. -o "$spoilt" "$scratch/engine.c" main.c cards.c pond.c mover.c sheet.c hydrograph.c || exit 1
+"${CC:-gcc}" -std=c11 -I. -o "$spoilt" "$scratch/engine.c" main.c cards.c records.c pond.c mover.c sheet.c hydrograph.c || exit 1
 got=$(printf '%b' "$(sheet_of 1 0 "$pond")$(sheet_of 1 1 "$jr_runoff")$(sheet_of 1 0 "$pond")" | "$spoilt" --sheet 2>&1; echo "status $?")
 check 'a sheet that does not add up' "$(printf '%b' "$up_sheet--\nhec1: the sums of a sheet are not the ordinates of its block\nstatus 2")" "$got"
 

@@ -242,10 +242,6 @@ static bool read_number(struct text field, unsigned places, int64_t *value)
 
 /* ---- Where numbers stand ---------------------------------------------- */
 
-/* RS has no rules of its own in the engine. */
-static const struct rule RS_STEPS = { 0, false, 1, 1 };
-static const struct rule RS_START = { 0, false, 0, 0 };
-
 /* The columns of counts of a place. */
 enum column { FIXED_FORM, FREE_FORM, PLACES_LEFT, OUTSIDE, COLUMNS };
 
@@ -261,23 +257,23 @@ static struct place {
 } places[] = {
     { "IT, field 1", REC_IT, 0, 0, &IT_FORM.rule[0], { 0 } },
     { "IT, field 4", REC_IT, 3, 3, &IT_FORM.rule[3], { 0 } },
-    { "JR, a ratio", REC_JR, 1, 9, &RATIO_RULE, { 0 } },
+    { "JR, a ratio", REC_JR, 1, 9, &JR_FORM.rule[1], { 0 } },
     { "BA", REC_BA, 0, 0, &BA_FORM.rule[0], { 0 } },
     { "PB", REC_PB, 0, 0, &PB_FORM.rule[0], { 0 } },
-    { "PI", REC_PI, 0, 9, &PI_RULE, { 0 } },
+    { "PI", REC_PI, 0, 9, &PI_FORM.rule[0], { 0 } },
     { "LU, field 1", REC_LU, 0, 0, &LU_FORM.rule[0], { 0 } },
     { "LU, field 2", REC_LU, 1, 1, &LU_FORM.rule[1], { 0 } },
     { "LU, field 3", REC_LU, 2, 2, &LU_FORM.rule[2], { 0 } },
-    { "UI", REC_UI, 0, 9, &UI_RULE, { 0 } },
-    { "QI", REC_QI, 0, 9, &QI_RULE, { 0 } },
+    { "UI", REC_UI, 0, 9, &UI_FORM.rule[0], { 0 } },
+    { "QI", REC_QI, 0, 9, &QI_FORM.rule[0], { 0 } },
     { "HC", REC_HC, 0, 0, &HC_FORM.rule[0], { 0 } },
     { "RM, field 1", REC_RM, 0, 0, &RM_FORM.rule[0], { 0 } },
     { "RM, field 2", REC_RM, 1, 1, &RM_FORM.rule[1], { 0 } },
     { "RM, field 3", REC_RM, 2, 2, &RM_FORM.rule[2], { 0 } },
-    { "RS, field 1", REC_RS, 0, 0, &RS_STEPS, { 0 } },
-    { "RS, field 3", REC_RS, 2, 2, &RS_START, { 0 } },
-    { "SV", REC_SV, 0, 9, &SV_RULE, { 0 } },
-    { "SQ", REC_SQ, 0, 9, &SQ_RULE, { 0 } }
+    { "RS, field 1", REC_RS, 0, 0, &RS_FORM.rule[0], { 0 } },
+    { "RS, field 3", REC_RS, 2, 2, &RS_FORM.rule[2], { 0 } },
+    { "SV", REC_SV, 0, 9, &SV_FORM.rule[0], { 0 } },
+    { "SQ", REC_SQ, 0, 9, &SQ_FORM.rule[0], { 0 } }
 };
 
 enum { PLACES = sizeof places / sizeof *places };
