@@ -6,8 +6,7 @@ enum {
     FIRST_PRINTABLE = 0x20,
     LAST_PRINTABLE = 0x7E,
     IDENTIFIER_WIDTH = 2,
-    FIELD_WIDTH = 8,
-    DIGIT_LIMIT = 9
+    FIELD_WIDTH = 8
 };
 
 /* Length of the line ending that stands here; 0 if none does.  A CR counts
@@ -110,8 +109,12 @@ static bool split_free(struct text line, struct fields *fields)
         if (length > 0) {
             /* Only a value makes the fields before it count: any number of
              * blank fields may trail. */
-            if (k >= FIELD_LIMIT)
+            if (k >= FIELD_LIMIT) {
+                fields->count = FIELD_LIMIT;
+                fields->past = k + 1;
+                fields->beyond = (struct text){ first, length };
                 return false;
+            }
             fields->count = k + 1;
         }
         at = skip_blanks(at, end);

@@ -11,7 +11,8 @@
 enum {
     LINE_LIMIT = 80,
     FIELD_LIMIT = 10,
-    NAME_LIMIT = 6
+    NAME_LIMIT = 6,
+    DIGIT_LIMIT = 9
 };
 
 /* Where a deck is being read, and the number of the line read last. */
@@ -38,13 +39,18 @@ enum line_state {
 enum line_state next_line(struct reader *reader, struct text *line);
 
 /* The fields of one line.  count is the place of the last one that is not
- * blank; only at[0] to at[count - 1] are set, and a blank one has length 0. */
+ * blank; only at[0] to at[count - 1] are set, and a blank one has length 0.
+ * Where more than ten are left, beyond is the first one behind the tenth that
+ * is not blank, past its place, and count is ten. */
 struct fields {
     unsigned count;
     struct text at[FIELD_LIMIT];
+    unsigned past;
+    struct text beyond;
 };
 
-/* Cuts a line behind its identifier.  False: more than ten fields. */
+/* Cuts a line behind its identifier.  False: more than ten fields; past and
+ * beyond are set only then. */
 bool split_fields(struct text line, bool free_form, struct fields *fields);
 
 /* The name on a KK line.  False: no name, too long, or a blank inside. */

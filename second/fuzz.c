@@ -8,12 +8,14 @@
  * form and back just where no other ratio than 1.00 is among them, the sheet of
  * a runoff block adds up to its ordinates, a hydrograph in print reads as the
  * ordinates again, a pond starts without outflow and never lets out more than
- * has come in, and some changes to a deck change nothing or only the line.
+ * has come in, a line has a reason for 6 or 7 just where it is refused by that,
+ * and some changes to a deck change nothing or only the line.
  * Prints two lines and ends with status 0, or says what broke, shows the deck
  * and ends with status 1. */
 #include "engine.h"
 #include "hydrograph.h"
 #include "mover.h"
+#include "reason.h"
 #include "sheet.h"
 
 #include <inttypes.h>
@@ -578,6 +580,73 @@ static void check_moved(const struct outcome *base)
     free(again);
 }
 
+static unsigned long reasons;
+
+/* A reason's text stands on the line, as the last that is said. */
+static void check_text(const char *text, size_t length, const uint8_t *line,
+                       size_t bytes)
+{
+    size_t used = 1;
+
+    if (text[length - 1] != '\n' || length > REASON_ROOM)
+        broken("a reason has no end");
+    while (used < length && text[length - 1 - used] != ' ')
+        used++;
+    for (size_t k = 0; k + used - 1 <= bytes; k++)
+        if (memcmp(line + k, text + length - used, used - 1) == 0)
+            return;
+    broken("a reason tells what does not stand on the line");
+}
+
+/* A line of the deck and what it is refused with, 0 if nothing.  KK has a text
+ * in any case. */
+static void check_reason(const char *at, size_t bytes, bool free_form,
+                         unsigned refusal)
+{
+    uint8_t *line = take(bytes, 0);
+    char text[REASON_ROOM];
+
+    memcpy(line, at, bytes);
+    for (unsigned number = 6; number <= 7; number++) {
+        size_t length = write_reason(number, free_form, line, bytes, text);
+        bool named = length > 4 && memcmp(text, "NAME", 4) == 0;
+
+        if (length > 0)
+            check_text(text, length, line, bytes);
+        if (number == refusal && length == 0)
+            broken("a refused line has no reason");
+        /* behind a malformed field there may be one outside its limits */
+        if (number != refusal && length > 0 && !named
+            && !(number == 7 && refusal == 6))
+            broken("a line has a reason and is not refused by it");
+        reasons += number == refusal;
+    }
+    free(line);
+}
+
+/* The lines up to the refused one or ZZ.  A refusal that stands behind 8 on a
+ * line finds its fields sound. */
+static void check_reasons(const struct answer *answer)
+{
+    const char *at = deck, *end = deck + deck_length;
+    bool free_form = false;
+
+    for (unsigned number = 1; at < end && answer->refusal != 2; number++) {
+        const char *behind = memchr(at, '\n', (size_t)(end - at));
+        size_t bytes = (size_t)((behind == NULL ? end : behind + 1) - at);
+
+        /* what is out of place is not looked into */
+        if (number != answer->line || answer->refusal != 5)
+            check_reason(at, bytes, free_form,
+                         number == answer->line ? answer->refusal : 0);
+        if (number == answer->line || (bytes >= 2 && memcmp(at, "ZZ", 2) == 0))
+            return;
+        if (bytes >= 4 && memcmp(at, "*F", 2) == 0)
+            free_form = at[2] == 'R';
+        at += bytes;
+    }
+}
+
 /* Bytes behind ZZ are not read. */
 static void check_behind_end(const struct outcome *base)
 {
@@ -620,6 +689,7 @@ static void check_deck(unsigned *count)
     check_zeros(&wide);
     check_same(&base, &wide);
     count[base.answer.refusal]++;
+    check_reasons(&base.answer);
     if (base.answer.refusal == 0) {
         check_accepted(&base);
         check_moved(&base);
@@ -646,7 +716,7 @@ int main(void)
     for (unsigned k = 1; k <= LAST_REFUSAL; k++)
         if (count[k] > 0)
             printf(" %u:%u", k, count[k]);
-    printf("\nfuzz: %lu sheets, all of which add up, %lu hydrographs and %lu"
-           " ponds\n", sheets, hydrographs, ponds);
+    printf("\nfuzz: %lu sheets, all of which add up, %lu hydrographs, %lu"
+           " ponds and %lu reasons\n", sheets, hydrographs, ponds, reasons);
     return 0;
 }

@@ -1,9 +1,10 @@
-/* The program around the engine, the mover, the sheet and the hydrograph: reads
- * one deck, a bundle of decks or a bundle of cases from standard input and
- * prints listings (document 01, 'A deck and its listing', and document 02, CR 3)
- * or, in the full form, all that the engine leaves in the room lent to it.
- * Likewise for files of records and the mover (document 02, CR 4), for the
- * sheets of runoff blocks (CR 5) and for the hydrographs of any blocks.
+/* The program around the engine, the mover, the sheet, the hydrograph and the
+ * reasons: reads one deck, a bundle of decks or a bundle of cases from standard
+ * input and prints listings (document 01, 'A deck and its listing', and document
+ * 02, CR 3) or, in the full form, all that the engine leaves in the room lent to
+ * it.  Likewise for files of records and the mover (document 02, CR 4), for the
+ * sheets of runoff blocks (CR 5), for the hydrographs of any blocks and for the
+ * reasons why lines are refused.
  *
  *   hec1                                  one deck, its listing
  *   hec1 --bundle                         length and deck, again and again
@@ -19,6 +20,10 @@
  *                                         sheet of block K under ratio R
  *   hec1 --hydrograph                     K, R, length and deck, again: the
  *                                         hydrograph of block K under ratio R
+ *   hec1 --reason                         number (6, any other for 7), form (0
+ *                                         fixed, any other free), length and
+ *                                         bytes, again: why the line that they
+ *                                         begin with is refused
  *
  * Numbers in bundles have 4 bytes, little-endian.  Exit status 0 whether decks
  * and files are refused or not; 2 when the input is cut short, asks for what
@@ -28,6 +33,7 @@
 #include "engine.h"
 #include "hydrograph.h"
 #include "mover.h"
+#include "reason.h"
 #include "sheet.h"
 
 #include <stdbool.h>
@@ -384,6 +390,19 @@ static void print_hydrograph(size_t length, struct named named)
                                 minutes_of(deck, length), text), stdout);
 }
 
+/* ---- Reasons ---------------------------------------------------------- */
+
+/* The bytes may be more than a deck has: only the first line counts. */
+static void print_reason(size_t length, uint32_t number, bool free_form)
+{
+    char text[REASON_ROOM];
+
+    if (length > sizeof deck)
+        length = sizeof deck;
+    fwrite(text, 1, write_reason(number, free_form, deck, length, text),
+           stdout);
+}
+
 /* ---- Reading ---------------------------------------------------------- */
 
 /* Reads standard input to its end.  Where there are more bytes than room only
@@ -409,7 +428,8 @@ static size_t read_only_deck(void)
 enum {
     CASE_NUMBERS = 6,
     MOVE_NUMBERS = 3,
-    NAMED_NUMBERS = 3
+    NAMED_NUMBERS = 3,
+    REASON_NUMBERS = 3
 };
 
 /* Reads numbers of 4 bytes.  False: the input ends where the first would
@@ -429,12 +449,15 @@ static bool read_numbers(uint32_t *numbers, unsigned count)
 }
 
 /* Reads a deck of a known length.  The engine does not look into one that is
- * too long, so its parts may be read over one another. */
+ * too long, so no more than its first bytes are kept. */
 static void read_deck(uint32_t length)
 {
-    for (uint32_t left = length; left > 0; ) {
+    static uint8_t rest[sizeof deck];
+    uint8_t *at = deck;
+
+    for (uint32_t left = length; left > 0; at = rest) {
         size_t part = left < sizeof deck ? left : sizeof deck;
-        if (fread(deck, 1, part, stdin) < part)
+        if (fread(at, 1, part, stdin) < part)
             stop("input ends inside a deck");
         left -= (uint32_t)part;
     }
@@ -494,6 +517,17 @@ static void run_named(void (*print)(size_t length, struct named named))
     }
 }
 
+static void run_reasons(void)
+{
+    uint32_t number[REASON_NUMBERS];
+
+    while (read_numbers(number, REASON_NUMBERS)) {
+        read_deck(number[2]);
+        print_reason(number[2], number[0], number[1] != 0);
+        puts("--");
+    }
+}
+
 /* Whoever starts this mode goes by what is said, not by a status: so an input
  * that is cut short is told like a refusal here, not as trouble. */
 static void run_store(void)
@@ -539,12 +573,13 @@ enum mode {
     STORE,
     SHEET,
     HYDROGRAPH,
+    REASON,
     MODES
 };
 
 static const char *const mode_word[MODES] = {
     "", "--full", "--bundle", "--cases", "--mover", "--store", "--sheet",
-    "--hydrograph"
+    "--hydrograph", "--reason"
 };
 
 /* The mode that a word asks for; LISTING has no word. */
@@ -602,6 +637,9 @@ int main(int argc, char **argv)
         break;
     case HYDROGRAPH:
         run_named(print_hydrograph);
+        break;
+    case REASON:
+        run_reasons();
         break;
     case FULL:
         print_full(read_only_deck(), &wish);
