@@ -1,7 +1,7 @@
 /* The deck writer: seeded test decks for the engine of document 01, with the
    storm totals, losses, ratios, ponds and trailing zeros of document 02, CR 1 to
-   CR 3, CR 6 and CR 7, files of records for the mover of CR 4, and decks for the
-   sheet of CR 5 and for the hydrograph in print. */
+   CR 3, CR 6 and CR 7, files of records for the mover of CR 4, decks for the
+   sheet of CR 5 and for the hydrograph in print, and lines for the reasons. */
 #include <stdio.h>
 #include <stdlib.h>
 #include <string.h>
@@ -26,6 +26,8 @@ static const char help[] =
     "decks sheets SEED COUNT          COUNT cases of the sheet: three 4-byte little-endian numbers (named block,\n"
     "                                 named ratio, deck length) and the deck\n"
     "decks hydrographs SEED COUNT     COUNT cases of the hydrograph, with the same numbers\n"
+    "decks reasons SEED COUNT         COUNT cases of the reasons: three 4-byte little-endian numbers (refusal,\n"
+    "                                 form, length) and bytes that begin with a line\n"
     "decks pairs SEED COUNT           COUNT pairs of decks, as in a bundle; each pair draws one network\n"
     "                                 in two orders and two manners of writing\n"
     "decks sound SEED COUNT           COUNT lawful decks, as in a bundle\n"
@@ -429,6 +431,21 @@ static void hydrographs(uint64_t seed, int count)
         number4(block);
         number4(ratio);
         out_deck(finish());
+    }
+}
+
+/* ---- cases of the reasons ---- */
+
+static void reasons(uint64_t seed, int count)
+{
+    int i, n;
+    uint32_t number, form;
+    for (i = 0; i < count; i++) {
+        rng_seed(seed, ((uint64_t)9 << 40) + (uint64_t)i);
+        n = reason_case(i, &number, &form, bytes);
+        number4(number);
+        number4(form);
+        out_deck(n);
     }
 }
 
@@ -867,6 +884,8 @@ int main(int argc, char **argv)
             sheets(seed, count);
         } else if (!strcmp(what, "hydrographs")) {
             hydrographs(seed, count);
+        } else if (!strcmp(what, "reasons")) {
+            reasons(seed, count);
         } else if (!strcmp(what, "pairs")) {
             pairs(seed, count);
         } else if (!strcmp(what, "one")) {

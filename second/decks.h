@@ -170,4 +170,7 @@ uint32_t ratio_named(const Net *n);
 uint32_t far_above(void);          /* a number far above every count */
 void one_above(const Net *n, uint32_t *block, uint32_t *ratio);   /* both by one */
 
+/* ---- cases of the reasons ---- */
+int reason_case(int index, uint32_t *number, uint32_t *form, unsigned char *out);   /* length */
+
 #endif
