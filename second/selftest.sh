@@ -2503,6 +2503,189 @@ for rest in '\x01' "$(le4 1)" "$(le4 1)$(le4 0)" "$(le4 1)$(le4 0)\x01\x00\x00" 
 done
 check 'two modes, one of them the hydrograph' 'status 2, said' "$(run --hydrograph --sheet </dev/null)"
 
+# ---- Reasons -----------------------------------------------------------------
+
+# reason NUMBER FORM TEXT LINE: what is said of a line refused by that number in
+# the form, 0 fixed or 1 free; no text where nothing is said.
+reason() { bundle --reason "${3:+$3\n}--\n" "$ok" "$(sheet_of "$1" "$2" "$4")"; }
+# reasons TEXT6 TEXT7 FORM LINE: for both numbers
+reasons() { bundle --reason "${1:+$1\n}--\n${2:+$2\n}--\n" "$ok" "$(sheet_of 6 "$3" "$4")$(sheet_of 7 "$3" "$4")"; }
+# of_field TEXT6 TEXT7 LINE: the same in free form, behind FIELD
+of_field() { reasons "${1:+FIELD $1}" "${2:+FIELD $2}" 1 "$3"; }
+
+# the examples of the words
+reason 7 1 'FIELD 4 LIMITS 0 1 300 400' 'IT 60,,,400'
+reason 6 1 'FIELD 1 PLACES 2 1 999999 4 1.56780' 'BA 1.56780'
+reason 6 1 'FIELD 2 NUMBER 2 0 10000000 2x' 'QI 1,2x'
+reason 7 1 'FIELD 3 LIMITS 2 1 999 ' 'JR PREC,1,,2'
+reason 6 1 'NAME RESERVOIR' 'KK RESERVOIR TWO'
+
+# nothing: no line, 3, blank, unknown, text, control, nothing refused
+for line in '' '\n' '   ' '     \r\n' '\nBA X' 'BA X\x00' 'BA X\t' 'BA X\x7f' 'BA X\x80\n' '\xffBA X' 'BA X\r' 'BA X\r\r\n' 'BA\rX\n' \
+    "BA -1X$(times 75 ' ')" "BA X,-1$(times 74 ' ')" "$(times 81 B)" "$(times 90 ' ')" 'XX 1' 'ba X' 'B' 'B A' ' BA X' 'LS X,-1' '*FREE' '*FIX' '*FIX   ' \
+    '*FREE X' '*FREEX' '*F' '*fix' '**' 'ID BA X' 'ID' 'KM -1,X' 'KMX' 'ZZ X' 'ZZ' 'IT 60,,,4' 'IT 60 X - 4' 'IT 1,,,1' 'IT 1440,x,y,300' \
+    'JR PREC,.01,9.99' 'BA .01' 'BA 9999.99' 'PB' 'PB 100' 'PI' 'PI ,,,' 'PI 20,0' 'LU' 'LU 20,20,0' 'LU ,,0.00' 'UI 99999.99' 'QI 100000' \
+    'HC 2' 'HC 5' 'RM 1,.01' 'RM 50,24,.5' 'RS 1,STOR' 'RS 1,STOR,0' 'RS +01.0 STOR -0' 'SV 99999.99' 'SQ 100000' 'SQ ,1' \
+    'SV 1,2,3,4,5,6,7,8,9,10' 'SV 1,2,3,4,5,6,7,8,9,10,,,,,' 'JR PREC,1,1,1,1,1,1,1,1,1' 'JR PREC,1,' 'JR PREC,1,,,,,,,,,,,,'; do
+    reasons '' '' 1 "$line"
+done
+# in the fixed form
+for line in 'IT    60     X  Y Z       4' 'IT    60       ,      ,,       4' 'JRPREC        1    9.99' 'BA     1' 'PI            20' 'LU' 'RS     1    STOR'; do
+    reasons '' '' 0 "$line"
+    reasons '' '' 0 "$line$(times $((80 - ${#line})) ' ')\n"
+done
+# names, sound or not, whatever the number is
+for line in 'KK A/A' 'KKA/A' 'KK   ABCDEF TEXT/ABCDEF' 'KK ABCDEFG/ABCDEFG' 'KK A,B/A' 'KK/' 'KK   /' 'KK,A/' 'KK , A/' 'KK A\r\n/A' "KK$(times 78 X)/$(times 78 X)"; do
+    reasons "NAME ${line#*/}" "NAME ${line#*/}" 1 "${line%%/*}"
+done
+for line in 'KK A/A' 'KKABCDEF/ABCDEF' 'KKABCDEFG/ABCDEF' 'KK RESERVOIR TWO/RESER' 'KKA B/A B' 'KK A  B X/A  B' 'KK      A/' 'KK/' 'KK,A/,A' 'KKA,B,\r\n/A,B,' 'KK  A   B/A'; do
+    reasons "NAME ${line#*/}" "NAME ${line#*/}" 0 "${line%%/*}"
+done
+reason 6 1 '' "BA X$(times 77 ' ')"                       # 81 bytes
+reason 6 1 'FIELD 1 NUMBER 2 1 999999 X' "BA X$(times 76 ' ')"
+reason 6 1 'FIELD 1 NUMBER 2 1 999999 X' "BA X$(times 76 ' ')\r\n"
+reason 6 1 "FIELD 1 NUMBER 2 1 999999 $(times 78 1)" "BA$(times 78 1)\n"
+
+# each field, one unit of its last place outside its limits and with one place more
+# than it allows: RECORD BEFORE AFTER PLACES LOW HIGH, then what is too low, too high
+# and too fine; - for nothing before or after it
+while read -r record before after limits; do
+    before="$record ${before#-}"
+    after=${after#-}
+    commas=${before//[!,]/}
+    read -r places low high under over fine <<<"$limits"
+    limits="$places $low $high"
+    text=$((${#commas} + 1))
+    of_field '' "$text LIMITS $limits $under" "$before$under$after"
+    of_field '' "$text LIMITS $limits $over" "$before$over$after"
+    of_field '' "$text LIMITS $limits -999999999" "$before-999999999$after"
+    of_field "$text PLACES $limits $((places + 1)) $fine" '' "$before$fine$after"
+    of_field "$text PLACES $limits $((places + 1)) ${fine}00" '' "$before${fine}00$after"
+    of_field "$text NUMBER $limits X" '' "${before}X$after"
+    of_field "$text NUMBER $limits 1234567890" '' "${before}1234567890$after"
+done <<'END'
+IT - ,,,4 0 1 1440 0 1441 1.5
+IT 60,x,y, - 0 1 300 0 301 1.5
+JR PREC, - 2 1 999 0 10 1.001
+JR PREC,1,1, ,2 2 1 999 0.00 10.00 .999
+JR PREC,1,1,1,1,1,1,1,1, - 2 1 999 0 10 .001
+BA - - 2 1 999999 0 10000 .001
+PB - - 4 0 1000000 -.0001 100.0001 .00001
+PI - - 4 0 200000 -.0001 20.0001 .00001
+PI 1,,,,,,,,, - 4 0 200000 -.0001 20.0001 .00001
+LU - - 4 0 200000 -.0001 20.0001 .00001
+LU 1, - 4 0 200000 -.0001 20.0001 .00001
+LU 1,1, - 2 0 0 -.01 .01 .001
+UI - - 2 0 9999999 -.01 100000 .001
+QI 1,2, - 2 0 10000000 -.01 100000.01 .001
+HC - - 0 2 5 1 6 2.5
+RM - ,1 0 1 50 0 51 1.5
+RM 1, - 2 1 2400 0 24.01 1.001
+RM 1,1, - 2 0 50 -.01 .51 .001
+RS - ,STOR 0 1 1 0 2 .5
+RS 1,STOR, - 0 0 0 -1 1 .5
+SV 1, - 2 0 9999999 -.01 100000 .001
+SQ 1,2,3,4, - 2 0 10000000 -.01 100000.01 .001
+END
+
+# IT: its fields 2 and 3 are never refused, its fifth has to be blank
+of_field '' '1 LIMITS 0 1 1440 ' 'IT'
+of_field '' '1 LIMITS 0 1 1440 ' 'IT ,X,Y,4'
+of_field '' '4 LIMITS 0 1 300 ' 'IT 60'
+of_field '' '4 LIMITS 0 1 300 ' 'IT 60,X,Y,'
+of_field '4 NUMBER 0 1 300 1-' '1 LIMITS 0 1 1440 0' 'IT 0,1.5,--,1-'
+of_field '5 BLANK 0' '' 'IT 60,,,4,0'
+of_field '7 BLANK X' '' 'IT 60,,,4,,,X,Y'
+of_field '1 PLACES 0 1 1440 1 60.5' '4 LIMITS 0 1 300 -1' 'IT 60.5,,,-1'
+# a word is malformed on JR and outside its limits on RS
+of_field '1 WORD 4 1347568963 1347568963 ' '2 LIMITS 2 1 999 ' 'JR'
+of_field '' '2 LIMITS 2 1 999 ' 'JR PREC'
+of_field '' '2 LIMITS 2 1 999 ' 'JR PREC,,,'
+of_field '' '2 LIMITS 2 1 999 ' 'JR PREC,,1'
+for line in prec PRE PRECX PREC. P STOR 1 0 .5 'PREC;' ; do of_field "1 WORD 4 1347568963 1347568963 $line" '' "JR $line,1"; done
+of_field '1 WORD 4 1347568963 1347568963 ' '' 'JR ,1'
+of_field '1 WORD 4 1347568963 1347568963 FLOW' '3 LIMITS 2 1 999 10' 'JR FLOW,1,10,X'
+of_field '2 NUMBER 2 1 999 PREC' '' 'JR PREC,PREC'
+of_field '' '1 LIMITS 0 1 1 ' 'RS'
+of_field '' '1 LIMITS 0 1 1 ' 'RS ,STOR'
+of_field '' '2 WORD 4 1398034258 1398034258 ' 'RS 1'
+of_field '' '2 WORD 4 1398034258 1398034258 ' 'RS 1,,0'
+for line in stor STO STORE STOR. S PREC 1 0 .5; do of_field '' "2 WORD 4 1398034258 1398034258 $line" "RS 1,$line,0"; done
+of_field '3 NUMBER 0 0 0 OR' '2 WORD 4 1398034258 1398034258 ST' 'RS 1 ST OR'
+of_field '4 BLANK 0' '' 'RS 1,STOR,0,0'
+of_field '1 NUMBER 0 1 1 X' '2 WORD 4 1398034258 1398034258 Y' 'RS X,Y,0'
+# fields that are missing, and blank ones, are the number 0
+of_field '' '1 LIMITS 2 1 999999 ' 'BA'
+of_field '2 BLANK 1' '1 LIMITS 2 1 999999 ' 'BA ,1'
+of_field '' '1 LIMITS 0 2 5 ' 'HC ,'
+of_field '' '1 LIMITS 0 1 50 ' 'RM'
+of_field '' '2 LIMITS 2 1 2400 ' 'RM 1'
+of_field '' '2 LIMITS 2 1 2400 ' 'RM 1,,.5'
+of_field '2 BLANK 0' '' 'PB 1,0'
+of_field '4 BLANK -' '' 'LU 1,1,0,-'
+of_field '4 BLANK 0' '' 'RM 1,1,.2,0'
+of_field '2 BLANK 3' '' 'HC 2 3'
+# past the tenth field, on a list too; a blank one there is none
+of_field '11 BLANK 11' '' 'SV 1,2,3,4,5,6,7,8,9,10,11'
+of_field '11 BLANK 11' '' 'SV 1 2 3 4 5 6 7 8 9 10 11 12'
+of_field '13 BLANK 5' '' 'QI ,,,,,,,,,,,,5'
+of_field '76 BLANK X' '' "PI $(times 75 ,)X"
+of_field '11 BLANK 1' '3 LIMITS 2 1 999 ' 'JR PREC,1,,,,,,,,,1'
+of_field '11 BLANK 2' '' 'JR PREC,1,1,1,1,1,1,1,1,1,2'
+of_field '11 BLANK 1' '1 LIMITS 0 1 1440 ' 'IT ,,,,,,,,,,1'
+of_field '2 NUMBER 2 0 9999999 X' '3 LIMITS 2 0 9999999 -1' 'UI 1,X,-1,4,5,6,7,8,9,10,X'
+# the first field that the number refuses, and places that are left
+of_field '2 NUMBER 4 0 200000 1-' '1 LIMITS 4 0 200000 21' 'PI 21,1-,.00001,-1'
+of_field '1 PLACES 4 0 200000 5 1.00001' '3 LIMITS 4 0 200000 21' 'PI 1.00001,X,21,22'
+of_field '1 PLACES 0 2 5 9 .123456789' '' 'HC .123456789'
+of_field '1 NUMBER 0 2 5 0.123456789' '' 'HC 0.123456789'
+of_field '1 NUMBER 0 2 5 2.000000000' '' 'HC 2.000000000'
+of_field '1 PLACES 2 1 999999 3 -0.00100' '' 'BA -0.00100'
+of_field '' '1 LIMITS 2 1 999999 0.00000' 'BA 0.00000'
+of_field '' '1 LIMITS 0 2 5 6.00' 'HC 6.00'
+for line in . - + -. 1.2.3 1E3 --1 1- '$1' 0x1; do of_field "1 NUMBER 0 2 5 $line" '' "HC $line"; done
+# blanks and commas
+of_field '' '2 LIMITS 4 0 200000 21' 'LU   1  , 21  ,0 '
+of_field '3 NUMBER 2 0 0 X' '' 'LU 1 1 X'
+of_field '2 NUMBER 2 0 10000000 X' '' 'QI,X'
+of_field '1 NUMBER 2 0 10000000 X' '' 'QIX'
+# the fixed form: columns, with blanks inside and commas
+reason 6 0 'FIELD 1 NUMBER 2 1 999999 1 2' 'BA   1 2'
+reason 6 0 'FIELD 1 NUMBER 2 0 10000000 1,2x' 'QI 1,2x'
+reason 6 0 'FIELD 2 NUMBER 2 0 10000000 2x' 'QI     1      2x'
+reason 6 0 'FIELD 2 BLANK 5' 'BA 12.345'
+reason 7 0 '' 'BA 12.345'
+reason 7 0 'FIELD 4 LIMITS 0 1 300 400' 'IT    60     1,2     3     400'
+reason 7 0 'FIELD 4 LIMITS 0 1 300 ' 'IT    60     1,2     3'
+reason 7 0 'FIELD 3 LIMITS 2 1 999 ' 'JRPREC  1               2'
+reason 7 0 'FIELD 2 WORD 4 1398034258 1398034258 ST OR' 'RS     1ST OR'
+reason 6 0 'FIELD 1 WORD 4 1347568963 1347568963 PREC,1' 'JRPREC,1'
+reason 6 0 'FIELD 10 NUMBER 4 0 200000 X' "PI$(times 77 ' ')X"
+reason 6 0 'FIELD 10 BLANK X' "BA     1$(times 71 ' ')X\r\n"
+reason 6 0 'FIELD 10 NUMBER 2 1 999 1.000.00' "JRPREC  1       1       1       1       1       1       1       1       1.000.00"
+
+# other numbers stand for 7, other forms for the free one
+for text in 0 1 3 5 7 8 20 262 1542 4294967295; do reason "$text" 1 'FIELD 1 LIMITS 2 1 999999 0' 'BA 0,X'; done
+for text in 1 2 6 256 65536 2147483648 4294967295; do reason 6 "$text" 'FIELD 2 BLANK X' 'BA 0,X'; done
+reason 6 0 'FIELD 1 NUMBER 2 1 999999 0,X' 'BA 0,X'
+
+# bytes behind the line are not looked at, however many there are
+for line in '\n' '\r\n' '\nBA 1' '\nKK A\n' '\n\x00\xff' '\r\n\x80' '\n*FIX\n' "\n$long" "\n$(times 60000 ' ')"; do
+    reason 6 1 'FIELD 1 NUMBER 2 1 999999 X' "BA X$line"
+done
+reason 6 1 '' "$long"
+reason 6 1 'FIELD 1 NUMBER 2 1 999999 X' "BA X\n$(times 59996 Y)"
+reason 6 1 'FIELD 1 NUMBER 2 1 999999 X' "BA X\n$(times 121000 Y)"
+
+# several cases, and where they end
+bundle --reason '' "$ok" ''
+bundle --reason "FIELD 1 NUMBER 2 1 999999 X\n--\n--\nNAME A\n--\n--\nFIELD 2 BLANK 1\n--\n" "$ok" \
+    "$(sheet_of 6 1 'BA X')$(sheet_of 7 1 'BA X')$(sheet_of 7 0 'KK A')$(sheet_of 6 1 '')$(sheet_of 6 9 'BA 1,1')"
+for rest in '\x01' "$(le4 6)" "$(le4 6)$(le4 0)" "$(le4 6)$(le4 0)\x01\x00\x00" "$(le4 6)$(le4 0)$(le4 3)ZZ" "$(le4 6)$(le4 0)$(le4 100000)$long"; do
+    bundle --reason "NAME A\n--\n" '2, said' "$(sheet_of 6 1 'KK A')$rest"
+done
+check 'two modes, one of them the reason' 'status 2, said' "$(run --reason --sheet </dev/null)"
+
 # ---- The counters ----------------------------------------------------------
 
 # The counter of losses, on blocks whose way and whose wrong rules are known:
