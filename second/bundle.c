@@ -37,8 +37,10 @@ static bool at_end(void)
 /* A deck behind its length. */
 static void read_deck(const char *program, uint8_t *deck, size_t *length)
 {
+    static uint8_t rest[DECK_LIMIT];
+
     *length = read_number(program);
-    for (size_t left = *length; left > 0; ) {
+    for (size_t left = *length; left > 0; deck = rest) {
         size_t part = left <= DECK_LIMIT ? left : DECK_LIMIT;
         read_bytes(program, deck, part);
         left -= part;

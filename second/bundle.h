@@ -1,6 +1,7 @@
 /* How the counters read their input: what hec1 --bundle, hec1 --mover, hec1
- * --sheet or hec1 --hydrograph reads, from standard input.  An input that is cut
- * short ends the program with status 2; program is its name. */
+ * --sheet, hec1 --hydrograph or hec1 --reason reads, from standard input.  An
+ * input that is cut short ends the program with status 2; program is its
+ * name. */
 #ifndef BUNDLE_H
 #define BUNDLE_H
 
@@ -11,8 +12,8 @@
 #include <stdint.h>
 
 /* Reads a deck behind its length, into DECK_LIMIT bytes.  False at the end of
- * input.  Of a deck that is too long the parts are read over one another: it
- * is refused unread. */
+ * input.  Of a deck that is too long only the first bytes are kept: it is
+ * refused unread. */
 bool next_deck(const char *program, uint8_t *deck, size_t *length);
 
 enum { FILE_LIMIT = 80000 };    /* bytes of a file to move, and of its room */
@@ -29,7 +30,8 @@ struct move_case {
  * with status 2 as well. */
 bool next_move(const char *program, struct move_case *move);
 
-/* A case of the sheet or of the hydrograph. */
+/* A case of the sheet or of the hydrograph; or one of the reasons, whose number
+ * and form stand in the places of block and ratio. */
 struct named_case {
     struct named named;
     size_t length;

@@ -1,5 +1,5 @@
 #!/bin/sh
-# coverage.sh [--program PROGRAM] [SEED [BUNDLE [CASES [PAIRS [MOVES [SHEETS [HYDROGRAPHS]]]]]]]
+# coverage.sh [--program PROGRAM] [SEED [BUNDLE [CASES [PAIRS [MOVES [SHEETS [HYDROGRAPHS [REASONS]]]]]]]]
 # Writes decks and files of records, runs them through the second program and
 # counts the answers.
 # The program is target/second/hec1, built here, or the one named with --program.
@@ -17,10 +17,12 @@
 # its counter states it, when no pair has ponds or none has such zeros in one
 # deck alone, when the moves lack a sort of file or room, or faults beside one
 # another, or do not tell a wrong rule of the mover from the right one, when the
-# cases of the sheet or those of the hydrograph lack an edge or do not tell a
-# wrong rule from the right one, when a sheet is not the one that its counter
-# works out or a hydrograph not the one that its counter writes, when a sound or
-# a long deck is refused, or when a pair is violated.
+# cases of the sheet, those of the hydrograph or those of the reasons lack an
+# edge or do not tell a wrong rule from the right one, when the reasons lack a
+# field that 6 or 7 can be told of, in either form, when a sheet is not the one
+# that its counter works out, a hydrograph not the one that its counter writes
+# or a reason not the one that its counter finds, when a sound or a long deck is
+# refused, or when a pair is violated.
 set -u
 root=$(CDPATH= cd -- "$(dirname -- "$0")/.." && pwd)
 . "$root/second/kit.sh" || exit 2
@@ -36,6 +38,7 @@ pairs=${4:-2000}
 moves=${5:-4000}
 sheets=${6:-2000}
 hydrographs=${7:-2000}
+reasons=${8:-2000}
 decks=$root/target/second/decks
 sh "$root/second/build-decks.sh" || exit 2
 if [ -z "$hec1" ]; then
@@ -114,6 +117,13 @@ check cmp "$work/text" "$work/out"
 check count hydrographs "$(sheet_refusals)" < "$work/out"
 check "$root/target/second/hydrographs" < "$work/decks"
 "$root/target/second/hydrographs" --text < "$work/decks" > "$work/text" || failed=$((failed + 1))
+check cmp "$work/text" "$work/out"
+
+"$decks" reasons "$seed" "$reasons" > "$work/decks"
+"$hec1" --reason < "$work/decks" > "$work/out" || failed=$((failed + 1))
+echo "reasons  $(grep -c '^--$' "$work/out")"
+check "$root/target/second/reasons" < "$work/decks"
+"$root/target/second/reasons" --text < "$work/decks" > "$work/text" || failed=$((failed + 1))
 check cmp "$work/text" "$work/out"
 
 "$decks" sound "$seed" "$pairs" > "$work/decks"

@@ -15,6 +15,7 @@ ratios=$out/ratios-checked
 moves=$out/moves-checked
 sheets=$out/sheets-checked
 hydrographs=$out/hydrographs-checked
+reasons_counter=$out/reasons-checked
 ponds=$out/ponds-checked
 zeros_counter=$out/zeros-checked
 decks=$out/decks-checked
@@ -41,6 +42,7 @@ build "$zeros_counter" zeros.c records.c pond.c bundle.c
 build "$moves" moves.c mover.c bundle.c
 build "$sheets" sheets.c cards.c records.c pond.c bundle.c
 build "$hydrographs" hydrographs.c cards.c records.c pond.c bundle.c
+build "$reasons_counter" reasons.c records.c bundle.c
 build "$decks" decks.c decks_net.c decks_ponds.c decks_write.c decks_damage.c decks_damage_ponds.c decks_moves.c decks_sheets.c \
     decks_hydrographs.c decks_zeros.c decks_reasons.c
 
@@ -2956,6 +2958,57 @@ cmp -s "$scratch/fewer" <(head -c $(($(wc -c <"$scratch/fewer"))) "$scratch/case
 check 'hydrographs: the same seed begins alike' 0 $?
 "$decks" hydrographs 3 200 | cmp -s - "$scratch/fewer"
 check 'hydrographs: another seed does not' 1 $?
+
+# The counter of reasons.  The examples of the words, one of them with two fields
+# that are no number; no bytes; in form 2, by number 8, RS with a malformed field, a
+# wrong word and a foreign byte behind; an eleventh value; a blank inside a number of
+# the fixed form; and blank fields at the end of JR.
+known=$(sheet_of 7 1 'IT 60,,,400')$(sheet_of 6 1 'BA 1.56780\n')$(sheet_of 6 1 'QI 1,2x,y\r\nKK')$(sheet_of 7 1 'JR PREC,1,,2')
+known+=$(sheet_of 6 1 'KK RESERVOIR TWO')$(sheet_of 6 1 '')$(sheet_of 8 2 'RS X ST OR\n\x01')$(sheet_of 6 1 'SV 1,2,3,4,5,6,7,8,9,10,11')
+known+=$(sheet_of 6 0 'BA   1 2')$(sheet_of 7 1 'JR PREC,1,,')
+# all, nothing, NAME, BLANK, NUMBER, PLACES, LIMITS, WORD
+expected='10,2,1,1,2,1,2,1,'
+# IT; JR; BA, PB; LU; HC; RM; RS; the lists: each by 6 fixed and free, 7 fixed and free
+expected+='0 0 0 0,0 0 0 1,0 0 - -,0 0 - -,0 0 0 0,0 0 0 1,- 0 - -,1 1 0 0,0 0 - -,0 0 0 0,0 0 - -,'
+expected+='0 0 0 0,0 0 0 0,0 0 0 0,0 0 - -,0 0 0 0,0 0 - -,0 0 0 0,0 0 0 0,0 0 0 0,0 0 - -,'
+expected+='0 0 0 0,- - 0 1,0 0 0 0,0 0 - -,0 0 0 0,0 0 0 0,0 1 0 0,0 0 0 0,0 0 0 0,'
+# nothing: no bytes .. by the other number; names; BLANK; NUMBER; PLACES; LIMITS;
+# WORD; blanks at the end, malformed before; 80 bytes, no LF, CR LF, bytes and a
+# foreign one behind, a long case; another number, another form
+expected+='1,0,0,0,0,0,0,1,0,0,1,0,0,1,0,1,0,2,0,0,1,0,0,0,0,1,0,0,0,1,0,0,1,0,5,1,2,1,0,1,1,'
+# (a) to (x).  From 0: all seven fields.  As though fixed: IT, BA in free form, QI,
+# the first JR, the name, RS and SV
+expected+='1,7,1,1,1,1,0,0,1,1,0,1,0,0,1,0,0,1,0,1,1,1,7,1,'
+got=$(printf '%b' "$known" | "$reasons_counter" | awk '/^ *[0-9-]/ && !/6 fixed/ {
+    line = $1
+    for (k = 2; k <= 4 && $1 $2 ~ /^[0-9-]+$/; k++) line = line " " $k
+    printf "%s,", line
+}')
+check 'reasons counted' "$expected" "$got"
+printf '%b' "$known" | "$reasons_counter" >"$scratch/said"
+check 'reasons: a count of 0 fails' 1 $?
+check 'reasons: what is missing' "$(tr , '\n' <<<"$expected" | grep -cw 0)" "$(grep -c ': MISSING$' "$scratch/said")"
+got=$(printf '%b' "$known" | "$reasons_counter" --text; echo "status $?")
+check 'reasons: the texts' "$(printf '%b' "$known" | "$prog" --reason; echo 'status 0')" "$got"
+for rest in '\x01' "$(le4 6)" "$(le4 6)$(le4 0)" "$(le4 6)$(le4 0)$(le4 3)ZZ"; do
+    printf '%b' "$known$rest" | "$reasons_counter" >"$scratch/said" 2>&1
+    check "reasons: input cut short $rest" 2 $?
+done
+check 'reasons: an unknown option' 2 "$("$reasons_counter" --nonsense </dev/null >"$scratch/said" 2>&1; echo $?)"
+# the deck writer's own cases, with memory watched
+"$decks" reasons 2 2000 >"$scratch/cases"
+"$prog" --reason <"$scratch/cases" >"$scratch/said"
+check 'reasons: the status on written cases' 0 $?
+"$reasons_counter" --text <"$scratch/cases" | cmp -s - "$scratch/said"
+check 'reasons: the program and the counter agree' 0 $?
+"$reasons_counter" <"$scratch/cases" >"$scratch/said"
+check 'reasons: nothing is missing' 0 $?
+check 'reasons: all written cases are looked at' 2000 "$(awk '$2 == "all" { print $1 }' "$scratch/said")"
+"$decks" reasons 2 200 >"$scratch/fewer"
+cmp -s "$scratch/fewer" <(head -c $(($(wc -c <"$scratch/fewer"))) "$scratch/cases")
+check 'reasons: the same seed begins alike' 0 $?
+"$decks" reasons 3 200 | cmp -s - "$scratch/fewer"
+check 'reasons: another seed does not' 1 $?
 
 # ---- Fuzz ----------------------------------------------------------------
 
