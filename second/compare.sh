@@ -1,22 +1,23 @@
 #!/bin/sh
-# compare.sh [--program PROGRAM] [SEED [BUNDLE [CASES [PAIRS [MOVES [SHEETS [HYDROGRAPHS]]]]]]]
+# compare.sh [--program PROGRAM] [SEED [BUNDLE [CASES [PAIRS [MOVES [SHEETS [HYDROGRAPHS [REASONS]]]]]]]]
 # Runs the proved programs and the second program on the same decks and compares what they print, byte by byte.
 # By default 20,000 decks of all sorts, 2,000 cases with rooms of all sizes, 4,000 files of records to move, 2,000 decks
 # with a block and a ratio to make a sheet of, 2,000 with those of a hydrograph, every block of every deck of examples/
-# under every ratio (whose hydrograph must also be the one that the listing sums up), 2,000 pairs of decks that draw one
-# network (which must also answer as such), and a few decks, one at a time, on both sides of 60,000 bytes, one of them
-# with the most blocks and ratios that there can be, one with the most ponds, one with zeros past the places of every
-# value of its lists.
+# under every ratio (whose hydrograph must also be the one that the listing sums up), 2,000 lines and reasons why they are
+# refused, the refused line of each of the first 2,000 decks that 6 or 7 refuses (which must have a reason, one of that
+# number and with what stands on the line), 2,000 pairs of decks that draw one network (which must also answer as such),
+# and a few decks, one at a time, on both sides of 60,000 bytes, one of them with the most blocks and ratios that there
+# can be, one with the most ponds, one with zeros past the places of every value of its lists.
 # Fails too when a refusal is missing: one that depends on rooms in the cases, any other in the bundle, one of the mover
 # in the moves, any but that of short work words in the sheets and in the hydrographs; when the bundle lacks an edge or a
 # fault of ponds, or a number with zeros past its places or refused with them, or does not tell a wrong rule of either from
-# the right one; when the hydrographs lack an edge or do not tell a wrong rule; and when the pairs have none with such
-# zeros in one deck alone.
-# The last line is 'N passed, M failed', where each deck, case, file, sheet, hydrograph and pair counts as one; the exit
-# status agrees with it.
+# the right one; when the hydrographs or the reasons lack an edge or do not tell a wrong rule; when none of those decks is
+# refused by 6 or none by 7; and when the pairs have none with such zeros in one deck alone.
+# The last line is 'N passed, M failed', where each deck, case, file, sheet, hydrograph, line and pair counts as one; the
+# exit status agrees with it.
 #
 # --program, to try this script itself: a program to start in place of the proved ones (with --bundle, --cases, --mover,
-# --sheet or --hydrograph).
+# --sheet, --hydrograph or --reason).
 set -u
 root=$(CDPATH="" cd -- "$(dirname -- "$0")/.." && pwd -P) || exit 2
 . "$root/second/kit.sh" || exit 2
@@ -32,6 +33,7 @@ pairs=${4:-2000}
 moves=${5:-4000}
 sheets=${6:-2000}
 hydrographs=${7:-2000}
+reasons=${8:-2000}
 second=$root/target/second/hec1
 decks=$root/target/second/decks
 work=$(mktemp -d) || exit 2
@@ -52,7 +54,7 @@ sh "$root/second/build-decks.sh" || die "the deck writer was not built"
 
 if [ -z "$program" ]; then
     find_kit || die "$no_kit"
-    (cd "$root" && "$rt" check hec1 bundle rooms mover sheet hydrograph) >"$work/log" 2>&1 ||
+    (cd "$root" && "$rt" check hec1 bundle rooms mover sheet hydrograph reason) >"$work/log" 2>&1 ||
         { tail -n 5 "$work/log" >&2; die "the programs were not proved and built"; }
 fi
 
@@ -67,6 +69,7 @@ proved() {
         mover) "$program" --mover ;;
         sheet) "$program" --sheet ;;
         hydrograph) "$program" --hydrograph ;;
+        reason) "$program" --reason ;;
         *) "$program" ;;
         esac
     fi
@@ -144,11 +147,24 @@ counted() {
     fi
 }
 
-# ---- bundle, cases, moves, sheets, hydrographs, pairs
+# refused_lines DECKS: which of the first so many listings in $work/proved are refused by 6 or 7: the deck's index from 0,
+# the number and the line
+refused_lines() {
+    awk -v decks="$1" '
+        first == "" { first = $0 == "" ? " " : $0 }
+        $0 == "--" {
+            if (first ~ /^REFUSED [67] [0-9]+$/) { split(first, f, " "); print n + 0, f[2], f[3] }
+            if (++n == decks) exit
+            first = ""
+        }' "$work/proved"
+}
+
+# ---- bundle, cases, moves, sheets, hydrographs, reasons, pairs
 
 "$decks" bundle "$seed" "$bundle" >"$work/decks" || die "the deck writer failed"
 both bundle --bundle
 compare bundle "$bundle" "$(deck_refusals)"
+refused_lines 2000 >"$work/refused"
 counted ponds
 counted zeros
 
@@ -169,6 +185,11 @@ both hydrograph --hydrograph
 compare hydrographs "$hydrographs" "$(sheet_refusals)"
 counted hydrographs
 
+"$decks" reasons "$seed" "$reasons" >"$work/decks" || die "the deck writer failed"
+both reason --reason
+compare reasons "$reasons" ''
+counted reasons
+
 "$decks" pairs "$seed" "$pairs" >"$work/decks" || die "the deck writer failed"
 both bundle --bundle
 compare pairs $((2 * pairs)) 11
@@ -183,13 +204,81 @@ else
 fi
 counted zeros --pairs
 
-# ---- the hydrographs of examples/
-
 # four NUMBER: in 4 bytes, the lowest first
 four() {
     # shellcheck disable=SC2059
     printf "$(printf '\\%03o\\%03o\\%03o\\%03o' $(($1 % 256)) $(($1 / 256 % 256)) $(($1 / 65536 % 256)) $(($1 / 16777216)))"
 }
+
+# ---- the reasons of the bundle
+
+# refused_line LINE: that line of $work/deck to $work/line, and says the form in force there, 1 for free
+refused_line() {
+    LC_ALL=C awk -v last="$1" -v to="$work/line" '
+        NR == last { printf "%s\n", $0 >to; print free + 0; exit }
+        /^\*FREE *\r?$/ { free = 1 }
+        /^\*FIX *\r?$/ { free = 0 }' "$work/deck"
+}
+
+# told: each text in $work/proved must be of the number that its line in $work/lines begins with, and must end with
+# something of that line
+told() {
+    LC_ALL=C awk -v lines="$work/lines" '
+        # what stands behind so many words of a text; a blank field is nothing
+        function behind(count,    i, rest) {
+            rest = text
+            for (i = 0; i < count; i++) sub(/^[^ ]* /, "", rest)
+            return rest
+        }
+        function holds(    word) {
+            if (text ~ /^NAME /) return number == 6 && line ~ /^KK/ && index(line, behind(1)) > 0
+            if (text !~ /^FIELD [1-9][0-9]* [A-Z]+ /) return 0
+            split(text, word, " ")
+            if (word[3] == "BLANK") return number == 6 && behind(3) != "" && index(line, behind(3)) > 0
+            if (word[3] == "NUMBER") return number == 6 && behind(6) != "" && index(line, behind(6)) > 0
+            if (word[3] == "PLACES") return number == 6 && behind(7) != "" && index(line, behind(7)) > 0
+            if (word[3] == "LIMITS") return number == 7 && (behind(6) == "" || index(line, behind(6)) > 0)
+            if (word[3] == "WORD") return line ~ (number == 6 ? "^JR" : "^RS") && (behind(6) == "" || index(line, behind(6)) > 0)
+            return 0
+        }
+        $0 != "--" { text = text $0 }
+        $0 == "--" {
+            line = ""
+            getline line < lines
+            number = substr(line, 1, 1) + 0
+            line = substr(line, 3)
+            met[number]++
+            if (holds()) good++
+            else if (++bad <= 5) printf "    %d, %s: %s\n", number, line, text
+            text = ""
+        }
+        END {
+            printf "refused  by 6 %6d, by 7 %6d, with a reason %6d\n", met[6], met[7], good
+            for (i = 6; i <= 7; i++) if (!met[i]) { print "    no deck is refused by " i; bad++ }
+            print good + 0, bad + 0
+        }' "$work/proved" >"$work/said"
+    sed '$d' "$work/said"
+    read -r good bad <<EOF
+$(tail -n 1 "$work/said")
+EOF
+    passed=$((passed + good))
+    failed=$((failed + bad))
+}
+
+: >"$work/cases"
+: >"$work/lines"
+while read -r index number line; do
+    "$decks" one "$seed" "$index" >"$work/deck" || die "the deck writer failed"
+    form=$(refused_line "$line")
+    { four "$number"; four "$form"; four $(($(wc -c <"$work/line"))); cat "$work/line"; } >>"$work/cases"
+    { printf '%s ' "$number"; cat "$work/line"; } >>"$work/lines"
+done <"$work/refused"
+mv "$work/cases" "$work/decks"
+both reason --reason
+compare refused $(($(wc -l <"$work/refused"))) ''
+told
+
+# ---- the hydrographs of examples/
 
 # every_block DECK: a case for each line of its listing, which is in $work/listing
 every_block() {
