@@ -156,16 +156,20 @@ static void commas(Line *l)
     }
 }
 
+static int record_of(int tag)
+{
+    int k = 0;
+    while (records[k].tag != tag)
+        k++;
+    return k;
+}
+
 /* records with several fields of their own come twice as often */
 static int any_record(void)
 {
     static const int several[] = { T_JR, T_LU, T_RM, T_RS };
-    int k, r = rnd(COUNT(records) + COUNT(several));
-    if (r < COUNT(records))
-        return r;
-    for (k = 0; records[k].tag != several[r - COUNT(records)]; k++)
-        ;
-    return k;
+    int r = rnd(COUNT(records) + COUNT(several));
+    return r < COUNT(records) ? r : record_of(several[r - COUNT(records)]);
 }
 
 static int how_spoilt(int number)
@@ -247,9 +251,7 @@ static int placed_line(Line *l, int turn)
 static void blank_ratios(Line *l)
 {
     Style style;
-    int record = 0, k;
-    while (records[record].tag != T_JR)
-        record++;
+    int record = record_of(T_JR), k;
     do {
         style_random(&style);
         l->tag = T_JR;
@@ -265,7 +267,7 @@ static void blank_ratios(Line *l)
 static void eleven_fields(Line *l, int number)
 {
     Style style;
-    int record = pct(60) ? between(8, COUNT(records) - 1) : any_record(), k;
+    int record = pct(60) ? between(record_of(T_PI), COUNT(records) - 1) : pct(40) ? record_of(T_JR) : any_record(), k;
     do {
         style_random(&style);
         l->tag = records[record].tag;
