@@ -23,17 +23,22 @@ deck_refusals() {
 # sheet_refusals: what a case of the sheet or of the hydrograph can be refused with: the same, and 17 for a block or ratio above the count
 sheet_refusals() { echo "$(deck_refusals)17"; }
 
-# find_kit: sets rt, and from its place tools, loader and, where the machine is not x86-64, emulator. Fails where there is no kit.
-find_kit() {
-    rt=$(command -v rt 2>/dev/null) || rt=${RATTLE_HOME:+$RATTLE_HOME/bin/rt}
-    if [ -z "$rt" ] || [ ! -x "$rt" ]; then return 1; fi
-    rt=$(readlink -f "$rt")
-    tools=${RATTLE_HOME:-$(dirname -- "$(dirname -- "$rt")")}/on/$(uname -m)/toolchain
+# use_tools FOLDER: sets tools to the folder, and from it loader and, where the machine is not x86-64, emulator
+use_tools() {
+    tools=$1
     loader=$tools/lib/ld-linux-x86-64.so.2
     emulator=$tools/bin/qemu-x86_64
     [ -x "$emulator" ] || emulator=
     # settings of the emulator could change what a program prints
     for word in $(env | sed -n 's/^\(QEMU_[A-Za-z0-9_]*\)=.*/\1/p'); do unset "$word"; done
+}
+
+# find_kit: sets rt, and uses the tools of its kit. Fails where there is no kit.
+find_kit() {
+    rt=$(command -v rt 2>/dev/null) || rt=${RATTLE_HOME:+$RATTLE_HOME/bin/rt}
+    if [ -z "$rt" ] || [ ! -x "$rt" ]; then return 1; fi
+    rt=$(readlink -f "$rt")
+    use_tools "${RATTLE_HOME:-$(dirname -- "$(dirname -- "$rt")")}/on/$(uname -m)/toolchain"
 }
 no_kit='the Rattle kit is missing: there is no command rt'
 
