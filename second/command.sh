@@ -1,8 +1,9 @@
 #!/bin/sh
 # command.sh [--program PROGRAM]
-# Tests the command ./hec1: listings, words of refusals, exit status, odd names, standard input, several files,
-# bundles, result files, sheets, input and output that fail, and how it builds the program; every transcript of docs/USERS.md; every deck
-# of examples/ against the listing and the sheet beside it. The last line is 'N passed, M failed', and the exit status agrees.
+# Tests the command ./hec1: listings, words of refusals, warnings, exit status, options and odd names, standard input, several files,
+# bundles, result files, sheets, hydrographs, input and output that fail, how it builds the program and how it is installed; every transcript
+# of docs/USERS.md; every deck of examples/ against the listing and the sheet beside it, and its hydrographs against those of the second
+# program. The last line is 'N passed, M failed', and the exit status agrees.
 #
 # --program, to try this script itself: a program that ./hec1 is to start in place of the proved one.
 set -u
@@ -21,14 +22,15 @@ proved=yes
 if [ "${1:-}" = --program ]; then
     proved=
     hec1=$scratch/hec1
-    printf '#!/bin/sh\nexec "%s" --program "%s" "$@"\n' "$root/hec1" "${2:?--program wants a program}" >"$hec1"
+    printf '#!/bin/sh\nexec "%s" --program "%s" "$@"\n' "$root/hec1" "$(readlink -f "${2:?--program wants a program}")" >"$hec1"
     chmod +x "$hec1"
 else
     # built here, so that no test below sees the words of a first use
-    "$hec1" </dev/null >/dev/null
-    "$hec1" --bundle </dev/null >/dev/null || { echo "command.sh: there is no proved program" >&2; exit 2; }
-    "$hec1" --to-new </dev/null >/dev/null || { echo "command.sh: there is no proved program" >&2; exit 2; }
-    printf '*FREE\nIT 60,,,1\nKK A\nBA 1\nPI\nLU\nUI\nZZ\n' | "$hec1" --sheet A >/dev/null || { echo "command.sh: there is no proved program" >&2; exit 2; }
+    printf '*FREE\nIT 60,,,1\nKK A\nBA 1\nPI\nLU\nUI\nZZ\n' >"$scratch/in"
+    for words in --quiet --bundle --records '--sheet A' '--hydrograph A'; do
+        # shellcheck disable=SC2086
+        "$hec1" $words "$scratch/in" >/dev/null || { echo "command.sh: there is no proved program" >&2; exit 2; }
+    done
 fi
 
 # same NAME EXPECTED GOT: two files must be equal
@@ -67,11 +69,19 @@ try() {
 
 input() { printf '%b' "$1" >"$scratch/in"; }
 
+# case_of BLOCK RATIO FILE: a deck as the programs sheet and hydrograph read it
+case_of() {
+    length=$(($(wc -c <"$3")))
+    # shellcheck disable=SC2059
+    printf "$(printf '\\%03o\\000\\000\\000\\%03o\\000\\000\\000\\%03o\\%03o\\000\\000' "$1" "$2" $((length % 256)) $((length / 256)))"
+    cat "$3"
+}
+
 # ---- listings, names and standard input
 
 place=$scratch/place
 mkdir "$place" && cd "$place" || exit 2
-good='*FREE\nIT 60,,,4\nKK A\nQI 1,2\nZZ\n'
+good='*FREE\nIT 60,,,4\nKK A\nQI 1,2,0,0\nZZ\n'
 good_list='A 2 0.00 2.00 2 180000000\nEND 1\n'
 bad='ID BAD\n*FREE\nIT 60,,,4\nKK A\nPI 1\nKM\nPI 25.0\nZZ\n'
 bad_list='REFUSED 7 7\n'
@@ -104,9 +114,9 @@ if [ "$(id -u)" != 0 ]; then
     try 'a closed file' 2 '' 'hec1: closed.hc1: cannot be read\n' "$hec1" closed.hc1
 fi
 
-for odd in 'a b.hc1' ' lead.hc1' '-x.hc1' '-' '--help' '-h' "it's.hc1" '$(echo x).hc1' '*.hc1' '%s.hc1' 'back\slash.hc1' '"q".hc1' "$(printf '\303\204.hc1')"; do
-    # './-' is a file; '-' would be standard input
-    case $odd in -) word=./- ;; *) word=$odd ;; esac
+for odd in 'a b.hc1' ' lead.hc1' '-x.hc1' '-' '--help' '-h' '--' "it's.hc1" '$(echo x).hc1' '*.hc1' '%s.hc1' 'back\slash.hc1' '"q".hc1' "$(printf '\303\204.hc1')"; do
+    # './-' is a file; '-' would be standard input, and what begins with '-' an option
+    case $odd in -*) word=./$odd ;; *) word=$odd ;; esac
     printf '%b' "$good" >"./$odd"
     try "the name $odd" 0 "$good_list" '' "$hec1" "$word"
     printf '%b' "$bad" >"./$odd"
@@ -114,10 +124,6 @@ for odd in 'a b.hc1' ' lead.hc1' '-x.hc1' '-' '--help' '-h' "it's.hc1" '$(echo x
     try "the name $odd, refused" 1 "$bad_list" "$(cat "$scratch/word")$bad_words" "$hec1" "$word"
     rm -f "./$odd"
 done
-printf '%b' "$good" >./--bundle
-try 'a file called --bundle, behind --' 0 "$good_list" '' "$hec1" -- --bundle
-try 'a file called --bundle, with its folder' 0 "$good_list" '' "$hec1" ./--bundle
-rm -f ./--bundle
 printf '%b' "$bad" >"new
 line.hc1"
 try 'a name of two lines' 1 "$bad_list" "new?line.hc1$bad_words" "$hec1" 'new
@@ -132,8 +138,74 @@ try 'a pipe' 1 "$bad_list" "pipe$bad_words" "$hec1" pipe
 wait
 ln -s "$hec1" linked
 try 'the command by a link' 1 "$bad_list" "pond.hc1$bad_words" ./linked pond.hc1
-"$hec1" --help >"$scratch/help" 2>&1
-holds 'help' grep -q 'hec1 FILE' "$scratch/help"
+
+# ---- options
+
+usage='usage: hec1 [--quiet] [FILE...]\n       hec1 --bundle [FILE...]\n       hec1 --records|--to-new|--to-old [FILE]
+       hec1 --sheet|--hydrograph BLOCK [--ratio R] [FILE]\n       hec1 --hydrographs DIR [FILE]\n       hec1 --install DIR\n       hec1 --version|--help\n'
+
+# unknown WORD, misplaced WORD: what is said of an option that there is not, and of one that stands where a file could
+unknown() { printf '%s' "hec1: unknown option $1\n$usage"; }
+misplaced() { printf '%s' "hec1: option $1 is out of place: options come first, and files behind them\n$usage"; }
+
+input "$good"
+for option in --foo -x -x.hc1 -qx --quiet=yes --help.hc1 --rat --ratios --hydro -1 --- '-a b' '-*' --sheets --records.hc1; do
+    printf '%b' "$good" >"./$option"
+    try "no option $option" 2 '' "$(unknown "$option")" "$hec1" "$option"
+    try "no option $option, behind a file" 2 '' "$(unknown "$option")" "$hec1" good.hc1 "$option"
+    try "no option $option, behind an option" 2 '' "$(unknown "$option")" "$hec1" --quiet "$option" good.hc1
+    try "a file called $option, behind --" 0 "$good_list" '' "$hec1" -- "$option"
+    try "a file called $option, with its folder" 0 "$good_list" '' "$hec1" "./$option"
+    rm -f "./$option"
+done
+try 'no option of two lines' 2 '' "$(unknown '-x?y')" "$hec1" '-x
+y'
+for words in --bundle --records --to-new --to-old '--sheet A' '--sheet A --ratio 1' '--hydrograph A' '--hydrograph 1 --ratio 1' '--hydrographs apart' '--install apart'; do
+    # shellcheck disable=SC2086
+    try "no option behind $words" 2 '' "$(unknown --foo)" "$hec1" $words --foo good.hc1
+    # shellcheck disable=SC2086
+    try "no option behind $words and a file" 2 '' "$(unknown --foo)" "$hec1" $words good.hc1 --foo
+    # shellcheck disable=SC2086
+    try "an option behind $words" 2 '' "$(misplaced --quiet)" "$hec1" $words --quiet good.hc1
+done
+for option in -q --quiet -h --help --version --bundle --records --to-new --to-old --sheet --hydrograph --hydrographs --ratio --install --program; do
+    printf '%b' "$good" >"./$option"
+    try "$option behind a file" 2 '' "$(misplaced "$option")" "$hec1" good.hc1 "$option"
+    try "$option behind a file, and a file" 2 '' "$(misplaced "$option")" "$hec1" good.hc1 "$option" good.hc1
+    try "$option behind the file of a sheet" 2 '' "$(misplaced "$option")" "$hec1" --sheet A good.hc1 "$option"
+    try "a file called $option, behind --" 0 "$good_list" '' "$hec1" -- "$option"
+    try "a file called $option, with its folder" 0 "$good_list" '' "$hec1" "./$option"
+    try "a file called $option, behind -- and a file" 0 "== good.hc1\n$good_list== $option\n$good_list" '' "$hec1" good.hc1 -- "$option"
+    rm -f "./$option"
+done
+holds 'no folder was made where an option was wrong' test ! -e apart
+try 'a ratio without a block' 2 '' "$(misplaced --ratio)" "$hec1" --ratio 1 --sheet A good.hc1
+try 'two options' 2 '' "$(misplaced --records)" "$hec1" --bundle --records good.hc1
+try '-- alone' 0 "$good_list" '' "$hec1" --
+try '-- twice' 2 '' 'hec1: --: no such file\n' "$hec1" -- --
+try 'standard input behind --' 0 "$good_list" '' "$hec1" -- -
+try 'quiet' 0 "$good_list" '' "$hec1" --quiet
+try 'quiet, a file' 0 "$good_list" '' "$hec1" -q good.hc1
+try 'quiet, files behind --' 1 "== good.hc1\n${good_list}== pond.hc1\n$bad_list" "pond.hc1$bad_words" "$hec1" -q -- good.hc1 pond.hc1
+try 'quiet, another option' 0 "$good_list--\n" '' "$hec1" --quiet --bundle good.hc1
+for option in --help -h; do
+    sed -n '2,/^$/s/^# \{0,1\}//p' "$root/hec1" | sed '/^set -u/,$d' >"$scratch/expected"
+    "$hec1" "$option" >"$scratch/got" 2>&1
+    holds "$option: status" test $? = 0
+    same "$option" "$scratch/expected" "$scratch/got"
+    holds "$option: the options" grep -q '^hec1 --hydrographs DIR FILE' "$scratch/got"
+    printf '%b' "$good" >"./$option"
+    "$hec1" "$option" >"$scratch/got" 2>&1
+    same "$option is no file" "$scratch/expected" "$scratch/got"
+    rm -f "./$option"
+done
+requests=$(find "$root/docs/changes" -name 'CR-*.md' | sed 's/.*CR-0*//; s/\.md$//' | sort -n | tail -n 1)
+{
+    echo "hec1: Evzorkhum, document 01 with change requests 1 to $requests"
+    if find_kit; then "$rt" version; fi
+} >"$scratch/expected"
+"$hec1" --version >"$scratch/got" 2>&1
+same 'the version' "$scratch/expected" "$scratch/got"
 
 # ---- lines quoted
 
@@ -152,8 +224,11 @@ quote 3 1 'foreign byte in column 1' '???ID' '\0357\0273\0277ID\n'
 quote 3 2 'foreign byte in column 4' 'ID ?' 'ID\nID \0000\nZZ\n'
 quote 3 1 'foreign byte in column 3' 'ID?' 'ID\r\r\n'
 quote 3 1 'foreign byte in column 3' 'ID?X' 'ID\rX\r\n'
-quote 3 1 'foreign byte in column 3' 'ZZ?' 'ZZ\r'
 quote 3 1 'foreign byte in column 4' 'ID ???' 'ID \0033\0001\0002\n'
+quote 3 2 'foreign byte in column 3' 'ZZ?' 'ID\nZZ\r'
+for deck in 'ZZ\r' '\r' 'ID A POND\rIT\rZZ\r' 'ID\tA\rZZ\r' "ID${eighty}A\rZZ\r"; do
+    quote 3 1 'lines that end with CR alone, as an old Macintosh writes them' "$(printf '%b' "$deck" | tr '\r\t' '??' | head -c 80)" "$deck"
+done
 quote 3 1 'foreign byte in column 5' 'ID ??' 'ID ?\0177\n'
 quote 3 1 'line of 82 bytes, over 80' "ID$(printf %.78s "$eighty")" "ID${eighty}A\n"
 quote 4 1 'unknown record or control' "XX$(printf %.78s "$eighty")" "XX$(printf %.78s "$eighty")\r\n"
@@ -168,6 +243,12 @@ quote 19 9 'a table of storage and outflow that breaks a rule in the block of li
 quote 20 9 'water above the last row of the table in the block of line 5' 'ZZ' '*FREE\nIT 60,,,4\nKK A\nQI 1\nKK P\nRS 1,STOR\nSV 0,.01\nSQ 0,0\nZZ\n'
 quote 12 9 'K, X and N do not suit the interval in the block of line 6' 'ZZ end' \
     '*FREE\nIT 60,,,4\nKK A\nQI 1\n\nKK B\nKM KK\nRM 1,0.5,0.2\nZZ end'
+for deck in '' '\n' '\n\n\n' '\r\n' '\r\n\n' '   \n' '   ' 'ID\n' '\n\nKM'; do
+    input "$deck"
+    case $deck in '') also=': the file is empty' ;; *[IK]*) also= ;; *) also=': the file has blank lines only' ;; esac
+    try "nothing but '$deck'" 1 'REFUSED 16 0\n' "-: no ZZ line$also (refusal 16)\n" "$hec1"
+    try "nothing but '$deck', its records" 1 '' "-: no ZZ line$also (refusal 16)\n" "$hec1" --records
+done
 head -c 60001 /dev/zero >long.hc1
 try 'a deck of 60,001 bytes' 1 'REFUSED 2 0\n' 'long.hc1: deck over 60,000 bytes (refusal 2)\n' "$hec1" long.hc1
 head -c 5000000 /dev/zero >long.hc1
@@ -224,6 +305,196 @@ if [ -n "$proved" ]; then
     holds 'bundle: a folder as standard input: no listing' test ! -s "$scratch/out"
     with 'bundle: a full device' 0 'OUTPUT FAILED\n' "$by_hand $made/bundle <'$root/crates/bundle/stdin' >/dev/full"
 fi
+
+# ---- warnings
+
+# said LINE WORDS QUOTED: a warning of the deck on standard input
+said() { printf '%s' "-:$1: warning: $2: $3\n"; }
+crossed() { said "$1" "columns $2 are filled: in fixed form a value across a border is read as two" "$3"; }
+late() { said "$1" "block $2 has its peak in the last interval, $3: the flow may still rise, and NQ be too small" "$4"; }
+short() { said "$1" "block $2 has $3 on QI, and NQ is $4: behind the last one the flow is zero" "$5"; }
+full() { said "$1" "block $2 takes a flow above 0 in interval 1: a reach starts full, as though that flow had always been there, and its volume is larger by what stood in it" "$3"; }
+
+# warns NAME STATUS WARNINGS DECK: what is said of a deck. Its listing and the status are those without warnings, and --quiet says
+# the refusal alone.
+warns() {
+    input "$4"
+    "$hec1" -q <"$scratch/in" >"$scratch/plain" 2>"$scratch/refusal"
+    holds "$1: the status without warnings" test $? = "$2"
+    holds "$1: quiet says no warning" sh -c '! grep -q warning: "$1"' sh "$scratch/refusal"
+    { printf 'status %s\n-- out\n' "$2"; cat "$scratch/plain"; echo '-- err'; cat "$scratch/refusal"; printf '%b' "$3"; } >"$scratch/expected"
+    "$hec1" <"$scratch/in" >"$scratch/out" 2>"$scratch/err"
+    ended=$?
+    { printf 'status %s\n-- out\n' "$ended"; cat "$scratch/out"; echo '-- err'; cat "$scratch/err"; } >"$scratch/got"
+    same "$1" "$scratch/expected" "$scratch/got"
+}
+
+# columns: fixed form, both sides of a border filled. A line of a list as 'PI' and fields of eight columns has none.
+fixed='IT    60                       4\n'
+warns 'a value across the first border' 0 "$(crossed 3 '8 and 9' 'QI     12.5       0       0')" "${fixed}KKA\nQI     12.5       0       0\nZZ\n"
+warns 'values in their columns' 0 '' "${fixed}KKA\nQI  12.5     2.5       0       0\nZZ\n"
+warns 'a value that ends with its columns' 0 '' "${fixed}KKA\nQI    12       5 12345.6       0\nZZ\n"
+wide='UI  99.5     2.5     3.5     4.5     5.5     6.5     7.5     8.5       91.25'
+warns 'a value across the last border' 0 "$(crossed 6 '72 and 73' "$wide")" "${fixed}KKA\nBA     1\nPI     1\nLU\n$wide\nZZ\n"
+warns 'values that fill their columns' 0 "$(crossed 6 '8 and 9, 16 and 17' 'UI  1.0512345.6712345.67     1.0')" \
+    "${fixed}KKA\nBA     1\nPI     0       1\nLU\nUI  1.0512345.6712345.67     1.0\nZZ\n"
+filled=$(printf '%072d' 0)
+warns 'text has no columns' 0 '' "ID$filled\nKM$filled\n${fixed}KKNAME  $filled\nKM$filled\nQI     1       2       0       0\nZZ$filled\n"
+warns 'free form has no columns' 0 '' "*FREE\nIT 60,,,4\nKK A\nQI 1.00,2.00,3.00,1.00\nZZ\n"
+warns 'the form in force counts' 0 "$(crossed 6 '8 and 9' 'QI     12')" \
+    "*FREE\nIT 60,,,4\nKK A\nQI 1.0,2.000\n*FIX   \nQI     12\n*FREE \nKK B\nQI 1.00,1.00,1.00,1.00\n*FIX\nKKC\nHC     2\nZZ\n"
+warns 'a control that is none changes no form' 1 "$(crossed 3 '8 and 9' 'QI     12.5')" "${fixed}*FREED\nQI     12.5\n"
+warns 'nothing behind ZZ is read' 0 '' "${fixed}KKA\nQI     1       2       0       0\nZZ\nQI     12.5\n"
+warns 'lines that end as DOS writes them' 0 "$(crossed 3 '8 and 9' 'QI     12.5       0       0')" "IT    60                       4\r\nKKA\r\nQI     12.5       0       0\r\nZZ\r\n"
+warns 'a last line without its end' 1 "$(crossed 3 '8 and 9' 'QI     12.5')" "${fixed}KKA\nQI     12.5"
+warns 'a refused deck' 1 "$(crossed 3 '8 and 9' 'PI     125.0')$(crossed 5 '8 and 9' 'UI     125.0')" "${fixed}KKA\nPI     125.0\nBA 0\nUI     125.0\nZZ\n"
+warns 'commas in fixed form' 1 "$(crossed 1 '8 and 9' 'IT 60,,,4')" 'IT 60,,,4\n'
+warns 'a record that is not read' 1 '' 'XX345678901234567890\n'
+warns 'foreign bytes fill no column' 1 '' "${fixed}KKA\nQI     \t1\nQI    1 \t\n"
+for record in IT JR BA PB PI LU UI QI HC RM RS SV SQ; do
+    warns "columns of $record" 1 "$(crossed 1 '8 and 9' "$record     12")" "$record     12\n"
+done
+for record in ID KM KK ZZ '*F' XX '  '; do
+    warns "no columns of '$record'" 1 '' "$record     12\n"
+done
+many=$(awk 'BEGIN { while (n++ < 12) printf "QI     12.5       0       0\\n" }')
+ten=$(for n in $(numbers 3 12); do crossed "$n" '8 and 9' 'QI     12.5       0       0'; done)
+warns 'many lines' 0 "$ten-: warning: 2 lines more with such columns filled\n" "IT    60                      48\nKKA\n${many}ZZ\n"
+
+# the peak in the last interval
+warns 'a peak at the end' 0 "$(late 3 '1 (A)' 4 'KK A')" '*FREE\nIT 60,,,4\nKK A\nQI 0,1,2,3\nZZ\n'
+warns 'a peak before the end' 0 '' '*FREE\nIT 60,,,4\nKK A\nQI 0,1,3,3\nZZ\n'
+warns 'no flow at all' 0 '' '*FREE\nIT 60,,,4\nKK A\nQI 0,0,0,0\nZZ\n'
+warns 'one interval' 0 "$(late 3 '1 (A)' 1 'KK A')" '*FREE\nIT 60,,,1\nKK A\nQI 1\nZZ\n'
+warns 'one interval without flow' 0 '' '*FREE\nIT 60,,,1\nKK A\nQI 0\nZZ\n'
+warns 'a peak at the end that is printed as 0.00' 0 "$(late 3 '1 (A)' 2 'KK A')" '*FREE\nIT 60,,,2\nKK A\nBA 1\nPI 0,0.0001\nLU\nUI 0.01\nZZ\n'
+warns 'peaks at the end of every kind' 0 \
+    "$(late 3 '1 (A)' 3 'KK A')$(late 8 '2 (R)' 3 'KK R')$(late 10 '3 (P)' 3 'KK P')$(late 14 '4 (B)' 3 'KK B')$(late 16 '5 (C)' 3 'KK C text')" \
+    '*FREE\nIT 60,,,3\nKK A\nBA 1\nPI 0,1,2\nLU\nUI 10\nKK R\nRM 1,1,0.2\nKK P\nRS 1,STOR\nSV 0,50\nSQ 0,10\nKK B\nQI 0,1,2\nKK C text\nHC 2\nZZ\n'
+# storms RATIOS: a basin and an inflow that meet, with its rain at the end
+storms() { printf '%s' "*FREE\nIT 60,,,4\nJR PREC,$1\nKK A\nBA 1\nPI 0.2,0,0,1\nLU 0.9\nUI 10\nKK B\nQI 1,1,1,1\nKK C\nHC 2\nZZ\n"; }
+warns 'a peak at the end under one ratio' 0 "$(late 4 '1 (A)' '4, under ratio 1.50' 'KK A')$(late 11 '3 (C)' '4, under ratio 1.50' 'KK C')" "$(storms 0.5,1.5)"
+warns 'a peak at the end under two ratios of three' 0 "$(late 4 '1 (A)' '4, under ratios 2.00, 1.50' 'KK A')$(late 11 '3 (C)' '4, under ratios 2.00, 1.50' 'KK C')" "$(storms 2,.5,1.5)"
+warns 'a peak at the end under the one ratio' 0 "$(late 4 '1 (A)' '4, under ratio 2.00' 'KK A')$(late 11 '3 (C)' '4, under ratio 2.00' 'KK C')" "$(storms 2)"
+warns 'no peak at the end under any ratio' 0 '' "$(storms .1,.2)"
+
+# counts NUMBER LINES: how many values the lines of a QI have. The program takes so many as NQ, and refuses one less by 8.
+counts() {
+    lines="KK A\n$2\nZZ\n"
+    word=values
+    if [ "$1" = 1 ]; then word=value; fi
+    warns "a value less than NQ: $2" 0 "$(short 4 '1 (A)' "$1 $word" $(($1 + 1)) 'KK A')" "*FREE\nIT 60,,,$(($1 + 1))\nKM\n$lines"
+    if [ "$1" != 0 ]; then
+        input "*FREE\nIT 60,,,$1\nKM\n$lines"
+        "$hec1" <"$scratch/in" >"$scratch/out" 2>"$scratch/err"
+        holds "as many values as NQ: $2" test $? = 0
+        holds "as many values as NQ, and no warning: $2" sh -c '! grep -q "on QI" "$1"' sh "$scratch/err"
+        input "*FREE\nIT 60,,,$(($1 - 1))\nKM\n$lines"
+        "$hec1" -q <"$scratch/in" >"$scratch/out" 2>/dev/null
+        holds "a value more than NQ: $2" grep -q "^REFUSED $(if [ "$1" = 1 ]; then echo 7; else echo 8; fi) " "$scratch/out"
+    fi
+}
+counts 0 'QI'
+counts 0 'QI ,, ,'
+counts 2 'QI 7,1'
+counts 2 'QI7 1'
+counts 2 'QI 7 , 1 ,,'
+counts 3 'QI ,7,1'
+counts 3 'QI 7,,1'
+counts 3 'QI 7 ,  , 1  '
+counts 3 'QI   7   0   1'
+counts 4 'QI 7,1\nKM 1,2,3\nQI 1 0 ,'
+counts 10 'QI 7,1,1,1,1,1,1,1,1,1,,'
+counts 1 '*FIX\nQI7'
+counts 1 '*FIX\nQI     7'
+counts 2 '*FIX\nQI      7'
+counts 2 '*FIX\nQI     7       0'
+counts 3 '*FIX\nQI     7               0   '
+counts 3 '*FIX\nQI     7        0'
+counts 10 "*FIX\nQI     7$(printf '%72s' 0)"
+counts 9 "*FIX\nQI     7$(printf '%64s' 0)        "
+counts 13 "QI 7,1\n*FIX\nQI     1$(printf '%72s' 0)\n*FREE\nQI 1\n"
+counts 2 'BA 1\nQI 7\nQI 1'
+warns 'two inflows that are short, and one that is not' 0 "$(short 3 '1 (A)' '2 values' 4 'KK A')$(short 7 '3 (C)' '3 values' 4 'KK C')" \
+    '*FREE\nIT 60,,,4\nKK A\nQI 2,1\nKK B\nQI 2,1,1,1\nKK C\nQI 2,1,1\nKK D\nHC 3\nZZ\n'
+warns 'rain may be short' 0 '' '*FREE\nIT 60,,,4\nKK A\nBA 1\nPI 1\nLU\nUI 1\nZZ\n'
+
+# a reach that starts full
+reach='KK R\nRM 1,1,0.2\n'
+warns 'a reach that starts full' 0 "$(full 5 '2 (R)' 'KK R')" "*FREE\nIT 60,,,4\nKK A\nQI 1,1,1,1\n${reach}ZZ\n"
+warns 'a reach that starts empty' 0 '' "*FREE\nIT 60,,,4\nKK A\nQI 0,3,2,1\n${reach}ZZ\n"
+warns 'a reach that starts with a flow unit' 0 "$(full 8 '2 (R)' 'KK R')" "*FREE\nIT 59,,,4\nKK A\nBA 1\nPI 0.0001\nLU 0,0.0001\nUI 0.01\n${reach}ZZ\n"
+warns 'a chain of reaches that start full' 0 "$(full 5 '2 (R)' 'KK R')" "*FREE\nIT 60,,,4\nKK A\nQI 1,1,1,1\n$reach${reach}ZZ\n"
+warns 'a reach behind a pond' 0 '' "*FREE\nIT 60,,,4\nKK A\nQI 9,1,1,1\nKK P\nRS 1,STOR\nSV 0,1\nSQ 0,10\n${reach}ZZ\n"
+warns 'a reach behind a confluence' 0 "$(full 9 '4 (R)' 'KK R')" "*FREE\nIT 60,,,4\nKK A\nQI 1,1,1,1\nKK B\nQI 0,0,0,0\nKK C\nHC 2\n${reach}ZZ\n"
+warns 'the one of two reaches that starts full' 0 "$(full 9 '4 (R)' 'KK R')" "*FREE\nIT 60,,,4\nKK A\nQI 0,1,1,0\n${reach}KK B\nQI 1,1,1,1\n${reach}KK C\nHC 2\nZZ\n"
+for ratios in 2 .5,2,1 2,.5 .5,2; do
+    warns "a reach that starts full under the largest of $ratios" 0 "$(full 9 '2 (R)' 'KK R')" "*FREE\nIT 60,,,4\nJR PREC,$ratios\nKK A\nBA 1\nPI 1\nLU 1\nUI 1\n${reach}ZZ\n"
+done
+warns 'a reach that starts empty under every ratio' 0 '' "*FREE\nIT 60,,,4\nJR PREC,1,.5\nKK A\nBA 1\nPI 1\nLU 1\nUI 1\n${reach}ZZ\n"
+warns 'several warnings, line by line' 0 \
+    "$(short 2 '1 (A)' '3 values' 4 KKA)$(crossed 3 '16 and 17' 'QI     1       12.5')$(late 4 '2 (R)' 4 'KKR')$(full 4 '2 (R)' KKR)" \
+    "${fixed}KKA\nQI     1       12.5\nKKR\nRM     1    1.00    0.20\nZZ\n"
+
+# names, files and other options
+for odd in '%s' '\\\\n' '&' 'A,B' '()' '\047' '*'; do
+    warns "a block called $odd" 0 "$(short 3 "1 ($odd)" '2 values' 4 "KK$odd")" "${fixed}*FIX\nKK$odd\nQI     2       1\nZZ\n"
+done
+short_deck='*FREE\nIT 60,,,4\nKK A\nQI 1,2\nZZ\n'
+for odd in 'a b.hc1' '%s.hc1' 'back\slash.hc1' '*.hc1' "it's.hc1" 'a=b.hc1' 'part=deck'; do
+    printf '%b' "$short_deck" >"./$odd"
+    printf '%s' "$odd" | sed 's/\\/\\\\/g' >"$scratch/word"
+    try "a warning of the file $odd" 0 "$good_list" "$(short 3 '1 (A)' '2 values' 4 'KK A' | sed "s/^-/NAME/" | WORD=$(cat "$scratch/word") awk '{ print ENVIRON["WORD"] substr($0, 5) }')" "$hec1" "$odd"
+    rm -f "./$odd"
+done
+printf '%b' "$short_deck" >short.hc1
+short_words=$(short 3 '1 (A)' '2 values' 4 'KK A' | sed 's/^-/short.hc1/')
+input ''
+try 'warnings of several files' 1 "== short.hc1\n${good_list}== pond.hc1\n${bad_list}== good.hc1\n${good_list}== short.hc1\n$good_list" "${short_words}pond.hc1$bad_words$short_words" \
+    "$hec1" short.hc1 pond.hc1 good.hc1 short.hc1
+try 'no warnings of a bundle' 0 "$good_list--\n" '' "$hec1" --bundle short.hc1
+try 'no warnings of quiet' 0 "$good_list" '' "$hec1" --quiet short.hc1
+"$hec1" --records short.hc1 >/dev/null 2>"$scratch/err"
+holds 'no warnings of records' test ! -s "$scratch/err"
+"$hec1" --hydrograph A short.hc1 >/dev/null 2>"$scratch/err"
+holds 'no warnings of a hydrograph' test ! -s "$scratch/err"
+
+# one start of the program tells all; where it cannot, only columns are told of, and the status stays
+cat >"$scratch/counting" <<END
+#!/bin/sh
+echo "start \$*" >>"$scratch/starts"
+if [ "\${1:-}" = --hydrograph ]; then tee "$scratch/asked" | "$second" "\$@"; else exec "$second" "\$@"; fi
+END
+chmod +x "$scratch/counting"
+: >"$scratch/starts"
+input "*FREE\nIT 60,,,4\nJR PREC,1,3,2\nKK A\nQI 0,1,1,0\n${reach}${reach}KK B\nQI 1,1,1,1\n${reach}KK C\nHC 2\n${reach}ZZ\n"
+"$root/hec1" --program "$scratch/counting" <"$scratch/in" >/dev/null 2>"$scratch/err"
+printf 'start \nstart --hydrograph\n' >"$scratch/expected"
+same 'two starts for a listing with warnings' "$scratch/expected" "$scratch/starts"
+: >"$scratch/expected"
+for numbers in '0 0' '1 2' '4 2' '6 2'; do
+    # shellcheck disable=SC2086
+    case_of $numbers "$scratch/in" >>"$scratch/expected"
+done
+same 'what is asked for warnings' "$scratch/expected" "$scratch/asked"
+: >"$scratch/starts"
+"$root/hec1" --program "$scratch/counting" -q <"$scratch/in" >/dev/null
+echo 'start ' >"$scratch/expected"
+same 'one start for a listing without warnings' "$scratch/expected" "$scratch/starts"
+input "${fixed}KKA\nQI     12.5\nZZ\n"
+for answer in 'exit 3' 'echo REFUSED 17 0; echo --' 'exit 0'; do
+    printf '#!/bin/sh\nif [ "${1:-}" != --hydrograph ]; then exec "%s" "$@"; fi\ncat >/dev/null\n%s\n' "$second" "$answer" >"$scratch/broken"
+    ended=0
+    if [ "$answer" = 'exit 3' ]; then ended=3; fi
+    try "warnings by a program that says: $answer" 0 'A 2 0.00 2.50 2 210000000\nEND 1\n' \
+        "hec1: -: the program ended with status $ended and gave no hydrograph\n$(crossed 3 '8 and 9' 'QI     12.5')" "$root/hec1" --program "$scratch/broken"
+done
+printf '%b' "${fixed}KKA\nQI     12.5\nZZ\n" >a.hc1
+twelve='A 2 0.00 2.50 2 210000000\nEND 1\n'
+crossed_a=$(crossed 3 '8 and 9' 'QI     12.5' | sed 's/^-/a.hc1/')
+try 'and it is asked no more' 0 "== a.hc1\n${twelve}== a.hc1\n$twelve" \
+    "hec1: a.hc1: the program ended with status 0 and gave no hydrograph\n$crossed_a$crossed_a" "$root/hec1" --program "$scratch/broken" a.hc1 a.hc1
+with 'a full device, and no warnings' 2 'hec1: standard output: cannot be written to\n' '"$hec1" short.hc1 >/dev/full'
 
 # ---- bundles
 
@@ -416,13 +687,8 @@ done
 printf '#!/bin/sh\nif [ "${1:-}" != --sheet ]; then exec "%s"; fi\ncat >/dev/null\necho OUTPUT FAILED >&2\n' "$second" >"$scratch/broken"
 try 'a program that cannot write' 2 '' 'hec1: -: the output cannot be written\n' "$root/hec1" --program "$scratch/broken" --sheet UP
 
-# case_file BLOCK RATIO DECK: a case as the program sheet reads it
-case_file() {
-    length=$(printf '%b' "$3" | wc -c)
-    printf '%b' "\\0$(printf %o "$1")\\0000\\0000\\0000\\0$(printf %o "$2")\\0000\\0000\\0000\\0$(printf %o "$length")\\0000\\0000\\0000$3"
-}
 if [ -n "$proved" ]; then
-    case_file 1 0 "$basin" >"$scratch/case"
+    case_of 1 0 basin.hc1 >"$scratch/case"
     head -c 40 "$scratch/case" >"$scratch/cut"
     head -c 9 "$scratch/case" >"$scratch/shorter"
     with 'sheet: a folder as standard input' 0 'INPUT FAILED\n' "$by_hand $made/sheet <."
@@ -446,18 +712,213 @@ while IFS= read -r deck; do
         number=$((number + 1))
         if [ "$kind" != 1 ]; then continue; fi
         for ratio in $(numbers 1 "$ratios"); do
-            { printf '%b' "\\0$(printf %o "$number")\\0000\\0000\\0000\\0$(printf %o "$ratio")\\0000\\0000\\0000"
-              size=$(wc -c <"$deck")
-              printf '%b' "\\0$(printf %o $((size % 256)))\\0$(printf %o $((size / 256)))\\0000\\0000"
-              cat "$deck"; } | "$second" --sheet | grep -v -x -e -- >"$scratch/expected"
+            case_of "$number" "$ratio" "$deck" | "$second" --sheet | grep -v -x -e -- >"$scratch/expected"
             "$hec1" --sheet "$number" --ratio "$ratio" "$deck" >"$scratch/got" 2>"$scratch/err"
             same "the sheet of ${deck#"$root/"}, block $number, ratio $ratio" "$scratch/expected" "$scratch/got"
         done
     done <"$scratch/kinds"
 done <"$scratch/examples"
 
+# ---- hydrographs
+
+# the hydrographs of that deck, and those of UP under three ratios; a line has the interval, the minutes, cfs and units
+head_line='interval,minutes,cfs,units\n'
+up_flow="${head_line}1,60,0.000000,0\n2,120,2.000000,120000000\n3,180,0.800000,48000000\n4,240,0.000000,0\n"
+riv_flow="${head_line}1,60,0.000000,0\n2,120,0.461538,27692307\n3,180,1.368047,82082840\n4,240,0.746472,44788348\n"
+side_flow="${head_line}1,60,1.000000,60000000\n2,120,2.000000,120000000\n3,180,2.000000,120000000\n4,240,1.000000,60000000\n"
+out_flow="${head_line}1,60,1.000000,60000000\n2,120,2.461538,147692307\n3,180,3.368047,202082840\n4,240,1.746472,104788348\n"
+up_more="${head_line}1,60,1.500000,90000000\n2,120,4.100000,246000000\n3,180,1.900000,114000000\n4,240,0.200000,12000000\n"
+up_less="${head_line}1,60,0.000000,0\n2,120,0.000000,0\n3,180,0.000000,0\n4,240,0.000000,0\n"
+input ''
+try 'a hydrograph, by the name' 0 "$up_flow" '' "$hec1" --hydrograph UP basin.hc1
+try 'a hydrograph, by the number' 0 "$riv_flow" '' "$hec1" --hydrograph 2 basin.hc1
+try 'a hydrograph, by the number with zeros' 0 "$side_flow" '' "$hec1" --hydrograph 003 basin.hc1
+try 'a hydrograph of a confluence' 0 "$out_flow" '' "$hec1" --hydrograph OUT basin.hc1
+try 'a hydrograph, behind --' 0 "$out_flow" '' "$hec1" --hydrograph 4 -- basin.hc1
+try 'a hydrograph under the one ratio' 0 "$up_flow" '' "$hec1" --hydrograph UP --ratio 1 basin.hc1
+try 'a hydrograph under the one ratio, behind --' 0 "$up_flow" '' "$hec1" --hydrograph UP --ratio 01 -- basin.hc1
+input "$basin"
+try 'a hydrograph from standard input' 0 "$riv_flow" '' "$hec1" --hydrograph RIV
+try 'a hydrograph from standard input by its name' 0 "$riv_flow" '' "$hec1" --hydrograph RIV -
+try 'a hydrograph from standard input under a ratio' 0 "$riv_flow" '' "$hec1" --hydrograph RIV --ratio 1 -
+try 'quiet, a hydrograph' 0 "$riv_flow" '' "$hec1" --quiet --hydrograph RIV
+input '*FREE\nIT 59,,,3\nKK TINY\nBA 1\nPI 0.0001,0.0001\nLU 0,0.0001\nUI 0.15,0.15\nZZ\n'
+try 'half of a millionth goes up' 0 "${head_line}1,59,0.000000,15\n2,118,0.000001,30\n3,177,0.000000,15\n" '' "$hec1" --hydrograph TINY
+input '*FREE\nIT 1440,,,1\nKK MOST\nQI 100000\nZZ\n'
+try 'the largest flow' 0 "${head_line}1,1440,100000.000000,6000000000000\n" '' "$hec1" --hydrograph MOST
+input '*FREE\nIT 30,,,4\nKK A\nQI 0,6,12,8\nKK P\nRS 1,STOR\nSV 0,0.50,1.20\nSQ 0,2.00,7.00\nZZ\n'
+try 'a hydrograph of a pond' 0 "${head_line}1,30,0.000000,0\n2,60,0.458015,27480916\n3,90,1.762135,105728104\n4,120,3.718068,223084099\n" '' "$hec1" --hydrograph P
+awk 'BEGIN { print "*FREE\nIT 60,,,300\nKK A"; for (k = 0; k < 300; k++) print "QI " k; print "ZZ" }' >"$scratch/in"
+"$hec1" --hydrograph A <"$scratch/in" >"$scratch/got" 2>&1
+awk 'BEGIN { print "interval,minutes,cfs,units"; for (k = 0; k < 300; k++) printf "%d,%d,%d.000000,%d%s\n", k + 1, 60 * (k + 1), k, 60 * k, k ? "000000" : "" }' >"$scratch/expected"
+same 'a hydrograph of 300 ordinates' "$scratch/expected" "$scratch/got"
+input ''
+
+# ratios: the only one, or one by its place
+try 'the first ratio' 0 "$up_more" '' "$hec1" --hydrograph UP --ratio 1 three.hc1
+try 'the second ratio' 0 "$up_flow" '' "$hec1" --hydrograph 1 --ratio 2 three.hc1
+try 'the last ratio' 0 "$up_less" '' "$hec1" --hydrograph UP --ratio 003 three.hc1
+try 'an inflow under any ratio' 0 "$side_flow" '' "$hec1" --hydrograph SIDE --ratio 3 three.hc1
+try 'a JR with one ratio' 0 "$up_more" '' "$hec1" --hydrograph UP one.hc1
+try 'which of three ratios' 2 '' 'hec1: three.hc1: the deck has 3 ratios; say which one by --ratio R, its place on JR\n' "$hec1" --hydrograph UP three.hc1
+try 'which of two ratios' 2 '' 'hec1: all.hc1: the deck has 2 ratios; say which one by --ratio R, its place on JR\n' "$hec1" --hydrograph 4 all.hc1
+for ratio in 0 4 10 33 99999999999999999999; do
+    try "no ratio $ratio" 2 '' "hec1: three.hc1: there is no ratio $ratio; the deck has 3 ratios\n" "$hec1" --hydrograph UP --ratio "$ratio" three.hc1
+done
+try 'no second ratio' 2 '' 'hec1: basin.hc1: there is no ratio 2; the deck has 1 ratio\n' "$hec1" --hydrograph RIV --ratio 2 basin.hc1
+
+# names
+for word in 5 0 XX up '' 'U*' 256; do
+    try "no hydrograph of '$word'" 2 '' "hec1: basin.hc1: there is no block '$word'; the deck has 4 blocks\n" "$hec1" --hydrograph "$word" basin.hc1
+done
+try 'neither block nor ratio' 2 '' "hec1: three.hc1: there is no block 'XX'; the deck has 4 blocks\n" "$hec1" --hydrograph XX three.hc1
+try 'a name that stands twice' 2 '' "hec1: twice.hc1: 'UP' is the name of blocks 1 and 3; say which one by its number\n" "$hec1" --hydrograph UP twice.hc1
+try 'a name that stands twice, by the number' 0 "$side_flow" '' "$hec1" --hydrograph 3 twice.hc1
+try 'a name that all have, and ratios' 2 '' "hec1: all.hc1: 'UP' is the name of blocks 1, 2, 3 and 4; say which one by its number\n" "$hec1" --hydrograph UP all.hc1
+try 'a name that looks like the number of another' 0 "$up_flow" '' "$hec1" --hydrograph 2 numbers.hc1
+try 'a name with a zero that looks like the number of another' 0 "$riv_flow" '' "$hec1" --hydrograph 01 numbers.hc1
+for odd in -- - --help RATIO END units 1e0 '"q"' '$x' '%s' '*' "A\\" '&'; do
+    printf '%b' "$basin" | NAME=$odd awk '$0 == "KK UP" { print "KK " ENVIRON["NAME"]; next } { print }' >odd.hc1
+    try "the hydrograph of a block called $odd" 0 "$up_flow" '' "$hec1" --hydrograph "$odd" odd.hc1
+done
+
+# what is refused or cannot be read, and the words
+input "$bad"
+try 'no hydrograph of a refused deck' 1 "$bad_list" "-$bad_words" "$hec1" --hydrograph A
+try 'no hydrograph of a refused deck under a ratio' 1 "$bad_list" "-$bad_words" "$hec1" --hydrograph A --ratio 9
+input ''
+try 'no hydrograph of a deck without ZZ' 1 'REFUSED 16 0\n' "open.hc1$open_words" "$hec1" --hydrograph 1 open.hc1
+try 'no hydrograph of a long deck' 1 'REFUSED 2 0\n' 'long.hc1: deck over 60,000 bytes (refusal 2)\n' "$hec1" --hydrograph 1 long.hc1
+try 'a hydrograph of a deck of 60,000 bytes' 0 "$up_flow" '' "$hec1" --hydrograph UP longest.hc1
+try 'no hydrograph of a missing file' 2 '' 'hec1: none.hc1: no such file\n' "$hec1" --hydrograph UP none.hc1
+try 'no hydrograph of a folder' 2 '' 'hec1: .: is a folder\n' "$hec1" --hydrograph UP .
+try 'hydrographs of two files' 2 '' 'hec1: --hydrograph takes one file\n' "$hec1" --hydrograph UP basin.hc1 basin.hc1
+try 'no block named for a hydrograph' 2 '' 'hec1: --hydrograph wants a block, its name or its number\n' "$hec1" --hydrograph
+try 'a ratio before the block of a hydrograph' 2 '' 'hec1: --hydrograph wants a block, its name or its number\n' "$hec1" --hydrograph --ratio 1 UP basin.hc1
+for word in '' x 1.5 -1 '1 2'; do
+    try "the ratio '$word' of a hydrograph" 2 '' 'hec1: --ratio wants the place of a ratio on JR, a number from 1\n' "$hec1" --hydrograph UP --ratio "$word" basin.hc1
+done
+try 'a hydrograph and a ratio without a place' 2 '' 'hec1: --ratio wants the place of a ratio on JR, a number from 1\n' "$hec1" --hydrograph UP --ratio
+input "$basin"
+with 'a full device, a hydrograph' 2 'hec1: standard output: cannot be written to\n' '"$hec1" --hydrograph UP >/dev/full'
+with 'no standard input, a hydrograph' 2 'hec1: standard input: cannot be read\n' '"$hec1" --hydrograph UP <&-'
+for answer in 'exit 3' 'echo REFUSED 17 0; echo --' 'exit 0'; do
+    printf '#!/bin/sh\nif [ "${1:-}" != --hydrograph ]; then exec "%s"; fi\ncat >/dev/null\n%s\n' "$second" "$answer" >"$scratch/broken"
+    code=0
+    if [ "$answer" = 'exit 3' ]; then code=3; fi
+    for words in '--hydrograph UP' '--hydrographs apart'; do
+        # shellcheck disable=SC2086
+        try "$words of a program that says: $answer" 2 '' "hec1: -: the program ended with status $code and gave no hydrograph\n" "$root/hec1" --program "$scratch/broken" $words
+    done
+done
+printf '#!/bin/sh\nif [ "${1:-}" != --hydrograph ]; then exec "%s"; fi\ncat >/dev/null\necho OUTPUT FAILED >&2\n' "$second" >"$scratch/broken"
+try 'a hydrograph of a program that cannot write' 2 '' 'hec1: -: the output cannot be written\n' "$root/hec1" --program "$scratch/broken" --hydrograph UP
+if [ -n "$proved" ]; then
+    with 'hydrograph: a folder as standard input' 0 'INPUT FAILED\n' "$by_hand $made/hydrograph <."
+    holds 'hydrograph: a folder as standard input: no hydrograph' test ! -s "$scratch/out"
+    with 'hydrograph: a full device' 0 'OUTPUT FAILED\n' "$by_hand $made/hydrograph <'$scratch/case' >/dev/full"
+    with 'hydrograph: a case that ends inside its deck' 0 'INPUT CUT\n' "$by_hand $made/hydrograph <'$scratch/cut'"
+    with 'hydrograph: a case that ends inside a number' 0 'INPUT CUT\n' "$by_hand $made/hydrograph <'$scratch/shorter'"
+    with 'hydrograph: a case' 0 '' "$by_hand $made/hydrograph <'$scratch/case'"
+    printf '%b--\n' "$up_flow" >"$scratch/expected"
+    same 'hydrograph: a case: its text' "$scratch/expected" "$scratch/out"
+fi
+
+# every block in a file of its own
+# wrote NAME FOLDER FILE TEXT ...: the folder has these files and no others
+wrote() {
+    title=$1
+    folder=$2
+    shift 2
+    LC_ALL=C ls -A "$folder" >"$scratch/got"
+    : >"$scratch/expected"
+    while [ $# -gt 0 ]; do
+        echo "$1" >>"$scratch/expected"
+        printf '%b' "$2" >"$scratch/text"
+        same "$title: $1" "$scratch/text" "$folder/$1"
+        shift 2
+    done
+    same "$title: the names" "$scratch/expected" "$scratch/got"
+    rm -rf "$folder"
+}
+input ''
+holds 'no folder was made where there is no hydrograph' test ! -e apart
+try 'all hydrographs' 0 '' 'hec1: apart: 4 files written\n' "$hec1" --hydrographs apart basin.hc1
+try 'all hydrographs once more' 0 '' 'hec1: apart: 4 files written\n' "$hec1" --hydrographs apart -- basin.hc1
+wrote 'all hydrographs' apart 001-UP.csv "$up_flow" 002-RIV.csv "$riv_flow" 003-SIDE.csv "$side_flow" 004-OUT.csv "$out_flow"
+try 'one hydrograph of one' 0 '' 'hec1: a/b c/*: 1 file written\n' "$hec1" --hydrographs 'a/b c/*' good.hc1
+wrote 'one hydrograph of one' 'a/b c/*' 001-A.csv "${head_line}1,60,1.000000,60000000\n2,120,2.000000,120000000\n3,180,0.000000,0\n4,240,0.000000,0\n"
+input "$basin"
+try 'all hydrographs of standard input' 0 '' 'hec1: ./-apart/: 4 files written\n' "$hec1" --hydrographs ./-apart/
+wrote 'all hydrographs of standard input' ./-apart 001-UP.csv "$up_flow" 002-RIV.csv "$riv_flow" 003-SIDE.csv "$side_flow" 004-OUT.csv "$out_flow"
+input ''
+try 'all hydrographs under one ratio' 0 '' 'hec1: apart: 4 files written\n' "$hec1" --hydrographs apart one.hc1
+holds 'all hydrographs under one ratio: the name' test -f apart/001-UP-ratio1.csv
+rm -r apart
+sed '/^KK RIV/,/^HC/d' three.hc1 >up.hc1
+try 'all hydrographs under three ratios' 0 '' 'hec1: apart: 3 files written\n' "$hec1" --hydrographs apart up.hc1
+wrote 'all hydrographs under three ratios' apart 001-UP-ratio1.csv "$up_more" 001-UP-ratio2.csv "$up_flow" 001-UP-ratio3.csv "$up_less"
+printf '%b' "$basin" | sed 's|^KK UP|KK ../x|; s|^KK RIV|KK a*b|; s|^KK SIDE|KK -._9|; s|^KK OUT|KK RATIO|' >odd.hc1
+try 'all hydrographs of odd names' 0 '' 'hec1: apart: 4 files written\n' "$hec1" --hydrographs apart odd.hc1
+wrote 'all hydrographs of odd names' apart 001-.._x.csv "$up_flow" 002-a_b.csv "$riv_flow" 003--._9.csv "$side_flow" 004-RATIO.csv "$out_flow"
+try 'all hydrographs of one name' 0 '' 'hec1: apart: 8 files written\n' "$hec1" --hydrographs apart all.hc1
+wrote 'all hydrographs of one name' apart 001-UP-ratio1.csv "$up_flow" 001-UP-ratio2.csv "$up_flow" 002-UP-ratio1.csv "$riv_flow" 002-UP-ratio2.csv "$riv_flow" \
+    003-UP-ratio1.csv "$side_flow" 003-UP-ratio2.csv "$side_flow" 004-UP-ratio1.csv "$out_flow" 004-UP-ratio2.csv "$out_flow"
+: >"$scratch/starts"
+"$root/hec1" --program "$scratch/counting" --hydrographs apart three.hc1 2>/dev/null
+printf 'start \nstart --hydrograph\n' >"$scratch/expected"
+same 'all hydrographs in one start' "$scratch/expected" "$scratch/starts"
+rm -r apart
+try 'no hydrographs of a refused deck' 1 "$bad_list" "pond.hc1$bad_words" "$hec1" --hydrographs apart pond.hc1
+try 'no hydrographs of a missing file' 2 '' 'hec1: none.hc1: no such file\n' "$hec1" --hydrographs apart none.hc1
+try 'all hydrographs of two files' 2 '' 'hec1: --hydrographs takes one file\n' "$hec1" --hydrographs apart basin.hc1 basin.hc1
+holds 'no folder was made of a refused deck' test ! -e apart
+for words in '' --ratio -x; do
+    try "the folder '$words'" 2 '' 'hec1: --hydrographs wants a folder\n' "$hec1" --hydrographs "$words" basin.hc1
+done
+try 'no folder' 2 '' 'hec1: --hydrographs wants a folder\n' "$hec1" --hydrographs
+: >apart
+try 'a file in the place of the folder' 2 '' 'hec1: apart: the folder cannot be made\n' "$hec1" --hydrographs apart basin.hc1
+try 'a file in the place of the folder above' 2 '' 'hec1: apart/x: the folder cannot be made\n' "$hec1" --hydrographs apart/x basin.hc1
+rm apart
+mkdir -p apart/002-RIV.csv
+try 'a folder in the place of a file' 2 '' 'hec1: apart: cannot be written to\n' "$hec1" --hydrographs apart basin.hc1
+rm -r apart
+if [ "$(id -u)" != 0 ]; then
+    mkdir apart
+    chmod 500 apart
+    try 'a folder that is closed' 2 '' 'hec1: apart: cannot be written to\n' "$hec1" --hydrographs apart basin.hc1
+    try 'a folder in one that is closed' 2 '' 'hec1: apart/x: the folder cannot be made\n' "$hec1" --hydrographs apart/x basin.hc1
+    rmdir apart
+fi
+
+# every example: each block under each ratio has the hydrograph that the second program writes, and there is no other file
+while IFS= read -r deck; do
+    named=${deck#"$root/"}
+    "$second" <"$deck" >"$scratch/listing"
+    if grep -q '^REFUSED ' "$scratch/listing"; then continue; fi
+    "$hec1" --hydrographs "$scratch/apart" "$deck" >"$scratch/out" 2>"$scratch/err"
+    holds "the hydrographs of $named: status" test $? = 0
+    holds "the hydrographs of $named: nothing on standard output" test ! -s "$scratch/out"
+    files=0
+    ratios=$(grep -c '^RATIO ' "$scratch/listing")
+    for number in $(numbers 1 "$(sed -n 's/^END //p' "$scratch/listing")"); do
+        for ratio in $(numbers 1 $((ratios + (ratios == 0)))); do
+            case_of "$number" "$ratio" "$deck" | "$second" --hydrograph | grep -v -x -e -- >"$scratch/expected"
+            file=$(printf '%03d-%s' "$number" "$(awk -v n="$number" 'NF == 6 && ++k == n { print $1 }' "$scratch/listing")")
+            if [ "$ratios" != 0 ]; then file=$file-ratio$ratio; fi
+            same "the hydrograph of $named, block $number, ratio $ratio" "$scratch/expected" "$scratch/apart/$file.csv"
+            files=$((files + 1))
+        done
+    done
+    holds "the hydrographs of $named: no others" test "$(find "$scratch/apart" -type f | grep -c .)" = "$files"
+    holds "the hydrographs of $named: their number" grep -q ": $files files\\{0,1\\} written\$" "$scratch/err"
+    rm -rf "$scratch/apart"
+done <"$scratch/examples"
+
+# ---- records of the examples
+
 # every example: its records are those that the second program has, and they move back only without other ratios
-find "$root/examples" -name '*.hc1' | sort >"$scratch/examples"
 while IFS= read -r deck; do
     "$hec1" --records "$deck" >"$scratch/records"
     od -An -v -tx1 <"$scratch/records" | tr -d ' \n' >"$scratch/got"
@@ -478,7 +939,7 @@ done <"$scratch/examples"
 # gives DECK LISTING: an accepted deck; refuses NUMBER LINE DECK: a refused one, whatever its words
 gives() {
     input "$1"
-    try "the guide: $1" 0 "$2" '' "$hec1"
+    try "the guide: $1" 0 "$2" '' "$hec1" -q
 }
 refuses() {
     input "$3"
@@ -600,56 +1061,131 @@ same 'the listing that README.md opens with' examples/nine-acre-pond/five-storms
 
 # ---- how the program is built, with a stand-in for the kit that counts its runs
 
+# The tools that the command wants, and nothing else: there is no rt among them.
+mkdir "$scratch/nothing"
+for tool in sh awk sed cat env find head tail tr mktemp rm readlink dirname uname grep date cp mv touch mkdir wc; do
+    at=$(command -v "$tool") && ln -s "$at" "$scratch/nothing/$tool"
+done
+
+# installed NAME COMMAND: a command that was installed, moved and called from another folder without the kit says what "$hec1" says
+installed() {
+    title=$1
+    alone=$2
+    for words in good.hc1 pond.hc1 short.hc1 'good.hc1 pond.hc1' '-q short.hc1' - '--bundle good.hc1 pond.hc1' '--records good.hc1' \
+        '--records pond.hc1' '--to-old new' '--to-new old' '--to-new new' '--sheet UP basin.hc1' '--sheet UP pond.hc1' '--sheet RIV basin.hc1' \
+        '--hydrograph OUT basin.hc1' '--hydrograph UP three.hc1' '--hydrograph A pond.hc1' '--hydrographs apart three.hc1' '--hydrographs apart pond.hc1' \
+        --version --help --foo 'good.hc1 -q' none.hc1 --sheet; do
+        # shellcheck disable=SC2086
+        "$hec1" $words <good.hc1 >"$scratch/out" 2>"$scratch/err"
+        { echo "status $?"; cat "$scratch/out"; echo '-- err'; cat "$scratch/err"; } >"$scratch/expected"
+        # shellcheck disable=SC2086
+        env -u RATTLE_HOME PATH="$scratch/nothing" "$alone" $words <good.hc1 >"$scratch/out" 2>"$scratch/err"
+        { echo "status $?"; cat "$scratch/out"; echo '-- err'; cat "$scratch/err"; } >"$scratch/got"
+        same "$title: $words" "$scratch/expected" "$scratch/got"
+    done
+    "$hec1" --hydrographs "$scratch/one" three.hc1 2>/dev/null
+    env -u RATTLE_HOME PATH="$scratch/nothing" "$alone" --hydrographs "$scratch/two" three.hc1 2>/dev/null
+    holds "$title: the hydrographs" diff -r "$scratch/one" "$scratch/two"
+    rm -rf "$scratch/one" "$scratch/two" apart
+    env -u RATTLE_HOME PATH="$scratch/nothing" "$alone" --install "$scratch/again" >"$scratch/out" 2>&1
+    holds "$title: no second installation: status" test $? = 2
+    echo 'hec1: --install: this command is installed itself; use the one in the repository' >"$scratch/expected"
+    same "$title: no second installation" "$scratch/expected" "$scratch/out"
+    holds "$title: no second installation: no folder" test ! -e "$scratch/again"
+    rm "${alone%/bin/hec1}/lib/evzorkhum/programs/sheet"
+    env -u RATTLE_HOME PATH="$scratch/nothing" "$alone" --sheet UP basin.hc1 >"$scratch/out" 2>&1
+    holds "$title: a program is missing: status" test $? = 2
+    echo "hec1: $(CDPATH="" cd -- "${alone%/bin/hec1}" && pwd -P)/lib/evzorkhum/programs/sheet is missing; install the command again" >"$scratch/expected"
+    same "$title: a program is missing" "$scratch/expected" "$scratch/out"
+}
+cd "$place" || exit 2
+printf '%b' "$record_a$whole" >new
+printf '%b' "$record_a" >old
+input ''
+if [ -n "$proved" ]; then
+    "$hec1" --install "$scratch/here" >"$scratch/out" 2>"$scratch/err"
+    holds 'installed: status' test $? = 0
+    mv "$scratch/here" "$scratch/there"
+    installed 'installed' "$scratch/there/bin/hec1"
+else
+    try 'only proved programs are installed' 2 '' 'hec1: --install: only proved programs are installed\n' "$hec1" --install "$scratch/here"
+    holds 'only proved programs are installed: no folder' test ! -e "$scratch/here"
+fi
+
 kit=$scratch/kit
+libraries=$kit/on/$(uname -m)/toolchain/lib
 repository="$scratch/a repository"
-mkdir -p "$kit/bin" "$kit/on/$(uname -m)/toolchain/lib" "$repository/crates/hec1/src" "$repository/second"
+mkdir -p "$kit/bin" "$libraries" "$repository/crates/hec1/src" "$repository/second"
 cp "$root/hec1" "$repository/"
 cp "$root/second/kit.sh" "$repository/second/"
-echo 'hec1:' >"$repository/crates.txt"
+printf '%s\n' '# NAME: what it stands on' 'base:' 'middle: base io libc' 'other: base' 'hec1: middle' 'bundle: middle other bytes' 'store: base' \
+    'sheet: other' 'hydrograph: other' >"$repository/crates.txt"
 echo '// a source' >"$repository/crates/hec1/src/main.rt"
 cat >"$kit/bin/rt" <<'END'
 #!/bin/sh
+if [ "$1" = version ]; then
+    echo 'a stand-in for the kit'
+    exit 0
+fi
 echo "$*" >>"$RUNS"
-sleep 1
+echo 'rt: base proved (unchanged since it was last proved)'
+echo 'fn middle::something: proved'
+echo 'rt: middle proved (12 s)'
+sleep "${PAUSE:-0.2}"
 if [ -f fault ]; then
     echo 'what was wrong'
     exit 1
 fi
 mkdir -p target/bin
-case $2 in bundle | sheet) option=--$2 ;; *) option= ;; esac
+case $2 in hec1) option= ;; *) option=--$2 ;; esac
 printf '#!/bin/sh\nexec "%s" %s\n' "$SECOND" "$option" >"target/bin/$2"
 chmod +x "target/bin/$2"
+echo "rt: $2 proved (3 s)"
+printf 'rt: ok, all proved'
 END
-printf '#!/bin/sh\nshift 2\nexec "$@"\n' >"$kit/on/$(uname -m)/toolchain/lib/ld-linux-x86-64.so.2"
-chmod +x "$kit/bin/rt" "$kit/on/$(uname -m)/toolchain/lib/ld-linux-x86-64.so.2"
+cat >"$libraries/ld-linux-x86-64.so.2" <<'END'
+#!/bin/sh
+folder=$2
+shift 2
+if [ "$1" = --list ]; then
+    printf '\tlinux-vdso.so.1 (0x1)\n\tlibc.so.6 => %s/libc.so.6 (0x1)\n\t/lib64/ld-linux-x86-64.so.2 => %s/ld-linux-x86-64.so.2 (0x1)\n' "$folder" "$folder"
+    exit 0
+fi
+exec "$@"
+END
+echo 'a library' >"$libraries/libc.so.6"
+echo 'another' >"$libraries/libm.so.6"
+chmod +x "$kit/bin/rt" "$libraries/ld-linux-x86-64.so.2"
 RUNS=$scratch/runs SECOND=$second RATTLE_HOME=$kit PATH=$kit/bin:$PATH
 export RUNS SECOND RATTLE_HOME PATH
 : >"$RUNS"
 runs() { [ "$(grep -c . "$RUNS")" = "$1" ]; }
-cd "$place" || exit 2
 hec1=$repository/hec1
-input ''
-"$hec1" good.hc1 >"$scratch/got" 2>"$scratch/err"
+log=$repository/target/command/hec1.log
+"$hec1" -q good.hc1 >"$scratch/got" 2>"$scratch/err"
 holds 'first use: status' test $? = 0
 printf '%b' "$good_list" >"$scratch/expected"
 same 'first use: listing' "$scratch/expected" "$scratch/got"
-printf '%s\n' 'hec1: proving and building hec1, which takes a while (log: target/command/hec1.log)' \
+printf '%s\n' "hec1: proving and building hec1, which takes a while (log: $log)" \
     'hec1: hec1 is proved and built (N s)' >"$scratch/expected"
 sed 's/([0-9]* s)/(N s)/' "$scratch/err" >"$scratch/got"
 same 'first use: words' "$scratch/expected" "$scratch/got"
+printf '%s\n' 'rt: base proved (unchanged since it was last proved)' 'fn middle::something: proved' 'rt: middle proved (12 s)' \
+    'rt: hec1 proved (3 s)' 'rt: ok, all proved' >"$scratch/expected"
+same 'first use: the log' "$scratch/expected" "$log"
 holds 'first use: one run of rt' runs 1
-try 'second use' 0 "$good_list" '' "$hec1" good.hc1
+try 'second use' 0 "$good_list" '' "$hec1" --quiet good.hc1
 holds 'second use: no run of rt' runs 1
 input "$bad"
 try 'second use, standard input' 1 "$bad_list" "-$bad_words" "$hec1"
 input ''
 touch "$repository/crates/hec1/src/main.rt"
-"$hec1" good.hc1 >/dev/null 2>&1
+"$hec1" -q good.hc1 >/dev/null 2>&1
 holds 'a source is newer: built again' runs 2
 touch "$repository/crates.txt"
-"$hec1" good.hc1 >/dev/null 2>&1
+"$hec1" -q good.hc1 >/dev/null 2>&1
 holds 'crates.txt is newer: built again' runs 3
-try 'and then no more' 0 "$good_list" '' "$hec1" good.hc1
+try 'and then no more' 0 "$good_list" '' "$hec1" -q good.hc1
 holds 'and then no more: runs' runs 3
 echo '// another' >"$repository/crates/hec1/src/new.rt"
 : >"$repository/fault"
@@ -657,8 +1193,9 @@ echo '// another' >"$repository/crates/hec1/src/new.rt"
 holds 'a build that fails: status' test $? = 2
 holds 'a build that fails: no listing' test ! -s "$scratch/out"
 holds 'a build that fails: the log' grep -q '^what was wrong$' "$scratch/err"
+holds 'a build that fails: where the log is' test "$(tail -n 1 "$scratch/err")" = "hec1: hec1 was not proved and built; all of the log is in $log"
 rm "$repository/fault"
-"$hec1" good.hc1 >"$scratch/got" 2>/dev/null
+"$hec1" -q good.hc1 >"$scratch/got" 2>/dev/null
 holds 'the next build: status' test $? = 0
 holds 'the next build: runs' runs 5
 "$hec1" --bundle good.hc1 >"$scratch/got" 2>/dev/null
@@ -669,28 +1206,133 @@ holds 'the program for bundles: by its name' test "$(tail -n 1 "$RUNS")" = 'chec
 printf '%b' "$up" >"$scratch/expected"
 same 'the program for sheets is built too' "$scratch/expected" "$scratch/got"
 holds 'the program for sheets: by its name' test "$(tail -n 1 "$RUNS")" = 'check sheet'
+
+# warnings want the program for hydrographs; where it is not built there are none of what flows, and the status stays
+: >"$repository/fault"
+"$hec1" short.hc1 short.hc1 >"$scratch/got" 2>"$scratch/err"
+holds 'no program for warnings: status' test $? = 0
+printf '%b' "== short.hc1\n${good_list}== short.hc1\n$good_list" >"$scratch/expected"
+same 'no program for warnings: listings' "$scratch/expected" "$scratch/got"
+holds 'no program for warnings: it is tried once' runs 8
+holds 'no program for warnings: no warning' sh -c '! grep -q warning: "$1"' sh "$scratch/err"
+rm "$repository/fault"
+"$hec1" short.hc1 >"$scratch/got" 2>"$scratch/err"
+printf '%b' "$good_list" >"$scratch/expected"
+same 'the program for warnings is built too' "$scratch/expected" "$scratch/got"
+printf '%b' 'hec1: warnings want one more program; --quiet does without\n' "hec1: proving and building hydrograph, which takes a while (log: ${log%hec1.log}hydrograph.log)\n" \
+    "hec1: hydrograph is proved and built (N s)\n$short_words" >"$scratch/expected"
+sed 's/([0-9]* s)/(N s)/' "$scratch/err" >"$scratch/got"
+same 'the program for warnings: words' "$scratch/expected" "$scratch/got"
+holds 'the program for warnings: by its name' test "$(tail -n 1 "$RUNS")" = 'check hydrograph'
+try 'the program for hydrographs' 0 "$out_flow" '' "$hec1" --hydrograph OUT basin.hc1
+holds 'the program for hydrographs: no run of rt' runs 9
 if command -v flock >/dev/null 2>&1; then
     rm -r "$repository/target"
-    for one in 1 2 3; do "$hec1" good.hc1 >"$scratch/got$one" 2>/dev/null & done
+    for one in 1 2 3; do "$hec1" -q good.hc1 >"$scratch/got$one" 2>/dev/null & done
     wait
     printf '%b' "$good_list" >"$scratch/expected"
     for one in 1 2 3; do same "three first uses at once: $one" "$scratch/expected" "$scratch/got$one"; done
-    holds 'three first uses at once: one build' runs 8
+    holds 'three first uses at once: one build' runs 10
 fi
-mkdir "$scratch/nothing"
-for tool in sh awk sed cat env find head tail tr mktemp rm readlink dirname uname grep date cp mv touch mkdir wc; do
-    at=$(command -v "$tool") && ln -s "$at" "$scratch/nothing/$tool"
+
+# how far a proof is: lines that are half a minute apart, by a clock that goes so fast as is wanted
+mkdir "$scratch/clock"
+printf '#!/bin/sh\nnow=$(($(cat "%s") + STEP))\necho "$now" | tee "%s"\n' "$scratch/time" "$scratch/time" >"$scratch/clock/date"
+chmod +x "$scratch/clock/date"
+for step in 16 31; do
+    rm -rf "$repository/target"
+    echo 1000 >"$scratch/time"
+    STEP=$step PATH=$scratch/clock:$PATH "$hec1" -q good.hc1 >/dev/null 2>"$scratch/got"
+    {
+        echo "hec1: proving and building hec1, which takes a while (log: $log)"
+        if [ "$step" = 31 ]; then echo 'hec1: proving hec1: 1 of 3 crates (base)'; fi
+        echo 'hec1: proving hec1: 2 of 3 crates (middle)'
+        if [ "$step" = 31 ]; then echo 'hec1: proving hec1: 3 of 3 crates (hec1)'; fi
+        echo "hec1: hec1 is proved and built ($((4 * step)) s)"
+    } >"$scratch/expected"
+    same "how far a proof is, by $step seconds" "$scratch/expected" "$scratch/got"
 done
-RATTLE_HOME=
-everything=$PATH
-# shellcheck disable=SC2123
-PATH=$scratch/nothing
-"$hec1" good.hc1 >"$scratch/out" 2>"$scratch/err"
-ended=$?
-PATH=$everything
+for program in bundle:4 store:2 sheet:3 hydrograph:3; do
+    echo 1000 >"$scratch/time"
+    STEP=31 PATH=$scratch/clock:$PATH "$hec1" --install "$scratch/here" >/dev/null 2>"$scratch/err"
+    holds "how many crates: $program" grep -q "^hec1: proving ${program%:*}: 1 of ${program#*:} crates (base)\$" "$scratch/err"
+    rm -rf "$repository/target"
+done
+# on a terminal it is one line, written anew; what is behind the last CR stands
+if script -qec true /dev/null >/dev/null 2>&1 </dev/null; then
+    HEC1=$hec1 script -qec '"$HEC1" -q good.hc1' /dev/null </dev/null 2>/dev/null | tr -d '\n' | tr '\r' '\n' | sed 's/ *$//; s/([0-9]* s)/(N s)/' | grep . >"$scratch/got"
+    {
+        echo "hec1: proving and building hec1, which takes a while (log: $log)"
+        echo 'hec1: proving hec1: 1 of 3 crates (base)'
+        echo 'hec1: proving hec1: 2 of 3 crates (middle)'
+        echo 'hec1: proving hec1: 3 of 3 crates (hec1)'
+        echo 'hec1: hec1 is proved and built (N s)'
+        printf '%b' "$good_list"
+    } >"$scratch/expected"
+    same 'how far a proof is, on a terminal' "$scratch/expected" "$scratch/got"
+    rm -rf "$repository/target"
+fi
+# a command that is ended while it proves leaves nothing that runs
+if command -v setsid >/dev/null 2>&1; then
+    : >"$RUNS"
+    PAUSE=60 setsid sh -c 'echo $$ >"$1"; exec "$2" -q good.hc1' sh "$scratch/group" "$hec1" >/dev/null 2>&1 &
+    while ! runs 1; do sleep 0.1; done
+    kill -s TERM -- "-$(cat "$scratch/group")"
+    wait
+    sleep 1
+    cat /proc/[0-9]*/stat 2>/dev/null | awk -v group="$(cat "$scratch/group")" '{ sub(/.*\) /, "") } $3 == group && $1 != "Z" { print }' >"$scratch/left"
+    holds 'a command that is ended leaves nothing that runs' test ! -s "$scratch/left"
+    rm -rf "$repository/target"
+fi
+
+# installed: by the stand-in, over an older one, and where it cannot be
+try 'no folder to install to' 2 '' 'hec1: --install wants a folder\n' "$hec1" --install
+for words in '' -x --help; do
+    try "to install to '$words'" 2 '' 'hec1: --install wants a folder\n' "$hec1" --install "$words"
+done
+try 'to install to two folders' 2 '' 'hec1: --install takes a folder and nothing else\n' "$hec1" --install "$scratch/here" "$scratch/there"
+rm -rf "$scratch/here" "$scratch/there"
+mkdir -p "$scratch/here/lib/evzorkhum" "$scratch/here/bin"
+echo 'of an older one' >"$scratch/here/lib/evzorkhum/older"
+echo 'of another' >"$scratch/here/lib/other"
+ln -s "$hec1" "$scratch/here/bin/hec1"
+cp "$hec1" "$scratch/before"
+(cd "$scratch" && "$hec1" --install here) >"$scratch/out" 2>"$scratch/err"
+holds 'installed by the stand-in: status' test $? = 0
+holds 'installed by the stand-in: nothing on standard output' test ! -s "$scratch/out"
+holds 'installed by the stand-in: words' test "$(tail -n 1 "$scratch/err")" = "hec1: $(CDPATH="" cd -- "$scratch/here" && pwd -P)/bin/hec1 is installed"
+same 'installed by the stand-in: the command in the repository stays' "$scratch/before" "$hec1"
+(cd "$scratch/here" && find . -type f | LC_ALL=C sort) >"$scratch/got"
+printf './%s\n' bin/hec1 lib/evzorkhum/kit lib/evzorkhum/kit.sh lib/evzorkhum/programs/bundle lib/evzorkhum/programs/hec1 lib/evzorkhum/programs/hydrograph \
+    lib/evzorkhum/programs/sheet lib/evzorkhum/programs/store lib/evzorkhum/tools/lib/ld-linux-x86-64.so.2 lib/evzorkhum/tools/lib/libc.so.6 lib/other >"$scratch/expected"
+same 'installed by the stand-in: its files' "$scratch/expected" "$scratch/got"
+try 'installed once more' 0 '' "hec1: $(CDPATH="" cd -- "$scratch/here" && pwd -P)/bin/hec1 is installed\n" "$hec1" --install "$scratch/here"
+mkdir "$scratch/to the"
+mv "$scratch/here" "$scratch/to the/there"
+ln -s "$scratch/to the/there/bin/hec1" "$scratch/hec1-link"
+try 'installed, by a link' 1 "$bad_list" "pond.hc1$bad_words" env -u RATTLE_HOME PATH="$scratch/nothing" "$scratch/hec1-link" pond.hc1
+mv "$repository" "$repository aside"
+mkdir "$repository"
+cp -R "$repository aside/." "$repository/"
+installed 'installed by the stand-in' "$scratch/to the/there/bin/hec1"
+: >"$scratch/file"
+try 'installed in the place of a file' 2 '' "hec1: $scratch/file: the folder cannot be made\n" "$hec1" --install "$scratch/file"
+mkdir "$scratch/taken"
+: >"$scratch/taken/lib"
+try 'installed where it cannot be written' 2 '' "hec1: $scratch/taken: cannot be written to\n" "$hec1" --install "$scratch/taken"
+rm -r "$repository/second"
+"$hec1" good.hc1 >"$scratch/out" 2>&1
+holds 'a command without its own files: status' test $? = 2
+echo "hec1: $repository/second/kit.sh is missing" >"$scratch/expected"
+same 'a command without its own files' "$scratch/expected" "$scratch/out"
+cp -R "$repository aside/second" "$repository/second"
+
+env -u RATTLE_HOME PATH="$scratch/nothing" "$hec1" good.hc1 >"$scratch/out" 2>"$scratch/err"
+holds 'without the kit: status' test $? = 2
 echo 'hec1: the Rattle kit is missing: there is no command rt' >"$scratch/expected"
 same 'without the kit' "$scratch/expected" "$scratch/err"
-holds 'without the kit: status' test "$ended" = 2
+try 'the version without the kit' 0 "hec1: Evzorkhum, document 01 with change requests 1 to $requests\n" '' env -u RATTLE_HOME PATH="$scratch/nothing" "$hec1" --version
+try 'the version with the kit' 0 "hec1: Evzorkhum, document 01 with change requests 1 to $requests\na stand-in for the kit\n" '' "$hec1" --version
 
 echo "$passed passed, $failed failed"
 [ "$failed" -eq 0 ]
