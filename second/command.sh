@@ -1136,6 +1136,7 @@ if [ -f fault ]; then
     echo 'what was wrong'
     exit 1
 fi
+if [ -f hollow ]; then exit 0; fi
 mkdir -p target/bin
 case $2 in hec1) option= ;; *) option=--$2 ;; esac
 printf '#!/bin/sh\nexec "%s" %s\n' "$SECOND" "$option" >"target/bin/$2"
@@ -1233,7 +1234,21 @@ if command -v flock >/dev/null 2>&1; then
     printf '%b' "$good_list" >"$scratch/expected"
     for one in 1 2 3; do same "three first uses at once: $one" "$scratch/expected" "$scratch/got$one"; done
     holds 'three first uses at once: one build' runs 10
+    rm -r "$repository/target"
+    PAUSE=3 "$hec1" -q good.hc1 >"$scratch/got1" 2>/dev/null &
+    while ! runs 11; do sleep 0.1; done
+    try 'a second use while the first proves' 0 "$good_list" 'hec1: another start is proving the program; waiting for it\n' "$hec1" -q good.hc1
+    wait
 fi
+rm -r "$repository/target"
+: >"$repository/target"
+try 'a file in the place of target' 2 '' "hec1: cannot write to $repository/target/command\n" "$hec1" good.hc1
+rm "$repository/target"
+: >"$repository/hollow"
+"$hec1" good.hc1 >"$scratch/out" 2>"$scratch/err"
+holds 'a kit that makes no program: status' test $? = 2
+holds 'a kit that makes no program: words' test "$(tail -n 1 "$scratch/err")" = 'hec1: cannot put the program hec1 in its place'
+rm "$repository/hollow"
 
 # how far a proof is: lines that are half a minute apart, by a clock that goes so fast as is wanted
 mkdir "$scratch/clock"
