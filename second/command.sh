@@ -1326,21 +1326,21 @@ mkdir "$scratch/to the"
 mv "$scratch/here" "$scratch/to the/there"
 ln -s "$scratch/to the/there/bin/hec1" "$scratch/hec1-link"
 try 'installed, by a link' 1 "$bad_list" "pond.hc1$bad_words" env -u RATTLE_HOME PATH="$scratch/nothing" "$scratch/hec1-link" pond.hc1
-mv "$repository" "$repository aside"
-mkdir "$repository"
-cp -R "$repository aside/." "$repository/"
+mv "$repository" "$scratch/aside"
+repository=$scratch/aside
+hec1=$repository/hec1
 installed 'installed by the stand-in' "$scratch/to the/there/bin/hec1"
 : >"$scratch/file"
 try 'installed in the place of a file' 2 '' "hec1: $scratch/file: the folder cannot be made\n" "$hec1" --install "$scratch/file"
 mkdir "$scratch/taken"
 : >"$scratch/taken/lib"
 try 'installed where it cannot be written' 2 '' "hec1: $scratch/taken: cannot be written to\n" "$hec1" --install "$scratch/taken"
-rm -r "$repository/second"
+mv "$repository/second" "$scratch/second"
 "$hec1" good.hc1 >"$scratch/out" 2>&1
 holds 'a command without its own files: status' test $? = 2
 echo "hec1: $repository/second/kit.sh is missing" >"$scratch/expected"
 same 'a command without its own files' "$scratch/expected" "$scratch/out"
-cp -R "$repository aside/second" "$repository/second"
+mv "$scratch/second" "$repository/second"
 
 env -u RATTLE_HOME PATH="$scratch/nothing" "$hec1" good.hc1 >"$scratch/out" 2>"$scratch/err"
 holds 'without the kit: status' test $? = 2
