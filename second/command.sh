@@ -1,9 +1,9 @@
 #!/bin/sh
 # command.sh [--program PROGRAM]
-# Tests the command ./hec1: listings, words of refusals, warnings, exit status, options and odd names, standard input, several files,
-# bundles, result files, sheets, hydrographs, input and output that fail, how it builds the program and how it is installed; every transcript
-# of docs/USERS.md; every deck of examples/ against the listing and the sheet beside it, and its hydrographs against those of the second
-# program. The last line is 'N passed, M failed', and the exit status agrees.
+# Tests the command ./hec1: listings, words of refusals, also beside the listings of 2,000 decks of the deck writer, warnings, exit status,
+# options and odd names, standard input, several files, bundles, result files, sheets, hydrographs, input and output that fail, how it builds
+# the program and how it is installed; every transcript of docs/USERS.md; every deck of examples/ against the listing and the sheet beside
+# it, and its hydrographs against those of the second program. The last line is 'N passed, M failed', and the exit status agrees.
 #
 # --program, to try this script itself: a program that ./hec1 is to start in place of the proved one.
 set -u
@@ -31,6 +31,7 @@ else
         # shellcheck disable=SC2086
         "$hec1" $words "$scratch/in" >/dev/null || { echo "command.sh: there is no proved program" >&2; exit 2; }
     done
+    printf 'IT\n' | "$hec1" --quiet 2>&1 >/dev/null | grep -q 'field 1' || { echo "command.sh: there is no proved program reason" >&2; exit 2; }
 fi
 
 # same NAME EXPECTED GOT: two files must be equal
@@ -85,7 +86,7 @@ good='*FREE\nIT 60,,,4\nKK A\nQI 1,2,0,0\nZZ\n'
 good_list='A 2 0.00 2.00 2 180000000\nEND 1\n'
 bad='ID BAD\n*FREE\nIT 60,,,4\nKK A\nPI 1\nKM\nPI 25.0\nZZ\n'
 bad_list='REFUSED 7 7\n'
-bad_words=':7: value outside its limits (refusal 7): PI 25.0\n'
+bad_words=':7: field 1 is 25.0; rain is 0 to 20 (refusal 7): PI 25.0\n'
 open_words=': no ZZ line (refusal 16)\n'
 input ''
 printf '%b' "$good" >good.hc1
@@ -215,10 +216,11 @@ quote() {
     try "the words of $5" 1 "REFUSED $1 $2\n" "-:$2: $3 (refusal $1): $4\n" "$hec1"
 }
 eighty=0123456789012345678901234567890123456789012345678901234567890123456789012345678
-quote 4 1 'unknown record or control' 'XX' 'XX'
-quote 4 2 'unknown record or control' 'XX' 'ID\r\nXX\r\nZZ\r\n'
-quote 4 3 'unknown record or control' '  KK A' '\n\n  KK A\n'
-quote 4 1 'unknown record or control' '%s \\\\n $x `y`' '%s \\\\n $x `y`\n'
+no_record="is no record of HEC-1's manual: look for a slip of the pen"
+quote 4 1 "XX $no_record" 'XX' 'XX'
+quote 4 2 "XX $no_record" 'XX' 'ID\r\nXX\r\nZZ\r\n'
+quote 4 3 'the identifier stands in columns 1 and 2' '  KK A' '\n\n  KK A\n'
+quote 4 1 "%s $no_record" '%s \\\\n $x `y`' '%s \\\\n $x `y`\n'
 quote 3 1 'foreign byte in column 3' 'ID?POND' 'ID\tPOND\n'
 quote 3 1 'foreign byte in column 1' '???ID' '\0357\0273\0277ID\n'
 quote 3 2 'foreign byte in column 4' 'ID ?' 'ID\nID \0000\nZZ\n'
@@ -231,13 +233,7 @@ for deck in 'ZZ\r' '\r' 'ID A POND\rIT\rZZ\r' 'ID\tA\rZZ\r' "ID${eighty}A\rZZ\r"
 done
 quote 3 1 'foreign byte in column 5' 'ID ??' 'ID ?\0177\n'
 quote 3 1 'line of 82 bytes, over 80' "ID$(printf %.78s "$eighty")" "ID${eighty}A\n"
-quote 4 1 'unknown record or control' "XX$(printf %.78s "$eighty")" "XX$(printf %.78s "$eighty")\r\n"
-quote 5 4 'JR out of place, or a second JR' 'JR X' '*FREE\nIT 60,,,4\nJR PREC,1\nJR X\n'
-quote 5 1 'JR out of place, or a second JR' 'JR' 'JR\n'
-quote 6 3 'another word than PREC on JR, a malformed ratio, or more than nine' 'JR FLOW,1' '*FREE\nIT 60,,,4\nJR FLOW,1\n'
-quote 7 3 'a ratio outside 0.01 to 9.99, or no ratio' 'JR PREC' '*FREE\nIT 60,,,4\nJR PREC\n'
-quote 7 6 'RS other than 1, STOR, 0' 'RS 1,FLOW' '*FREE\nIT 60,,,4\nKK A\nQI 1\nKK P\nRS 1,FLOW\n'
-quote 9 6 'wrong set of records in the block of line 4' 'KK B' '*FREE\nIT 60,,,4\nKM\nKK A\nBA 1\nKK B\nZZ\n'
+quote 4 1 "XX $no_record" "XX$(printf %.78s "$eighty")" "XX$(printf %.78s "$eighty")\r\n"
 quote 18 9 'a storm total above 0 with a pattern of zeros in the block of line 3' 'KK B' '*FREE\nIT 60,,,4\nKK A\nBA 1\nPB 1\nPI\nLU\nUI 1\nKK B\n'
 quote 19 9 'a table of storage and outflow that breaks a rule in the block of line 5' 'KK B' '*FREE\nIT 60,,,4\nKK A\nQI 1\nKK P\nRS 1,STOR\nSV 0\nSQ 0\nKK B\n'
 quote 20 9 'water above the last row of the table in the block of line 5' 'ZZ' '*FREE\nIT 60,,,4\nKK A\nQI 1\nKK P\nRS 1,STOR\nSV 0,.01\nSQ 0,0\nZZ\n'
@@ -257,6 +253,338 @@ try 'a deck of 5,000,000 bytes' 1 'REFUSED 2 0\n' 'long.hc1: deck over 60,000 by
 try 'a deck of 60,000 bytes' 0 "$good_list" '' "$hec1" long.hc1
 printf 'x' >>long.hc1
 try 'one byte more' 1 'REFUSED 2 0\n' 'long.hc1: deck over 60,000 bytes (refusal 2)\n' "$hec1" long.hc1
+
+# ---- closer words: which field, record or set
+
+# why NUMBER LINE WORDS DECK: the words of a deck, of the same with the line ends of DOS, and with foreign bytes behind it, 60,000 in all
+{ printf '\0001\0377\0000\n\r\r\n*FREE\n%0100d\nKK\t\nIT 60,,,4\nZZ\n' 0; head -c 30000 /dev/zero; head -c 30000 /dev/zero | tr '\0' '\252'; } >"$scratch/junk"
+why() {
+    printf '%b' "$4" >plain.hc1
+    sed "s/\$/$(printf '\r')/" plain.hc1 >dos.hc1
+    { cat plain.hc1; head -c $((60000 - $(wc -c <plain.hc1))) "$scratch/junk"; } >junk.hc1
+    quoted=$(sed -n "${2}p" plain.hc1)
+    for one in plain dos junk; do
+        printf 'REFUSED %s %s\n%s.hc1:%s: %s (refusal %s): %s\n' "$1" "$2" "$one" "$2" "$3" "$1" "$quoted" >"$scratch/expected"
+        "$hec1" -q "$one.hc1" >"$scratch/got" 2>"$scratch/err" </dev/null
+        ended=$?
+        cat "$scratch/err" >>"$scratch/got"
+        if [ "$ended" != 1 ]; then echo "status $ended" >>"$scratch/got"; fi
+        same "closer words, $one: $4" "$scratch/expected" "$scratch/got"
+    done
+}
+# the fields of 7: below, above and blank, limits with and without places, one value alone, words
+seven() { why 7 "$@"; }
+timed='*FREE\nIT 60,,,4\n'
+begun="${timed}KK A\n"
+seven 2 'field 4 is 400; ordinates are 1 to 300' '*FREE\nIT 60,,,400\n'
+seven 2 'field 4 is blank, which reads as 0; ordinates are 1 to 300' '*FREE\nIT 60\n'
+seven 2 'field 1 is blank, which reads as 0; minutes are 1 to 1,440' '*FREE\nIT ,,,4\n'
+seven 1 'field 1 is 1441; minutes are 1 to 1,440' 'IT  1441                       0\n'
+seven 1 'field 4 is -1; ordinates are 1 to 300' 'IT    60                      -1\n'
+seven 3 'field 2 is blank, which reads as 0; ratios are 0.01 to 9.99' "${timed}JR PREC\n"
+seven 3 'field 3 is blank, which reads as 0; ratios are 0.01 to 9.99' "${timed}JR PREC,1,,2\n"
+seven 3 'field 10 is 10.0; ratios are 0.01 to 9.99' "${timed}JR PREC,1,1,1,1,1,1,1,1,10.0\n"
+seven 4 'field 1 is blank, which reads as 0; the area is 0.01 to 9,999.99' "${begun}BA\n"
+seven 4 'field 1 is 10000; the area is 0.01 to 9,999.99' "${begun}BA 10000\n"
+seven 4 'field 2 is 20.0001; rain is 0 to 20' "${begun}PI 20,20.0001\n"
+seven 4 'field 1 is 101; the total is 0 to 100' "${begun}PB 101\n"
+seven 4 'field 1 is -.1; the initial loss is 0 to 20' "${begun}LU -.1,-1\n"
+seven 4 'field 2 is 21; the uniform loss is 0 to 20' "${begun}LU 0,21,1\n"
+seven 4 'field 3 is 20; the impervious part is 0' "${begun}LU 0.5,0.1,20\n"
+seven 4 'field 1 is 100000; unit ordinates are 0 to 99,999.99' "${begun}UI 100000\n"
+seven 4 'field 4 is 100000.01; flows are 0 to 100,000' "${begun}QI 1,,1,100000.01\n"
+seven 4 'field 1 is 6; hydrographs to join are 2 to 5' "${begun}HC 6\n"
+seven 4 'field 1 is blank, which reads as 0; hydrographs to join are 2 to 5' "${begun}HC\n"
+seven 4 'field 1 is 51; steps are 1 to 50' "${begun}RM 51,0,0\n"
+seven 4 'field 2 is 24.01; K is 0.01 to 24' "${begun}RM 1,24.01,0.6\n"
+seven 4 'field 3 is .51; X is 0 to 0.5' "${begun}RM 1,1,.51\n"
+seven 4 'field 1 is 2; steps are 1' "${begun}RS 2,STOR\n"
+seven 4 'field 2 is FLOW; only STOR may stand there' "${begun}RS 1,FLOW,-1\n"
+seven 4 'field 2 is blank; STOR must stand there' "${begun}RS 1\n"
+seven 4 'field 3 is -1; the storage at the start is 0' "${begun}RS 1,STOR,-1\n"
+seven 4 'field 2 is 100000; storages are 0 to 99,999.99' "${begun}SV 0,100000\n"
+seven 4 'field 1 is -1; outflows are 0 to 100,000' "${begun}SQ -1\n"
+seven 6 'field 2 is 100001; flows are 0 to 100,000' "${begun}*FIX   \nKM *FREE\nQI     1  100001\n"
+seven 7 'field 2 is 100001; flows are 0 to 100,000' "${begun}*FIX\nKM\n*FREE \nQI 1 100001\n"
+# 6: no number, digits, places, fields that must be blank, words, names
+six() { why 6 "$@"; }
+six 4 'field 2 is 2x, which is no number' "${begun}QI 1,2x\n"
+six 4 'field 1 is 1e2, which is no number' "${begun}QI 1e2\n"
+six 4 'field 1 is -, which is no number' "${begun}QI -\n"
+six 4 'field 1 is ., which is no number' "${begun}QI .\n"
+six 4 'field 1 is 1.2.3, which is no number' "${begun}QI 1.2.3\n"
+six 5 "field 2 is '1 2', which is no number" "${begun}*FIX\nQI     1     1 2\n"
+six 1 "field 1 is '60,,,', which is no number; commas want *FREE" 'IT 60,,,4\n'
+six 4 'field 1 is 1.500000000, with 10 digits; nine are allowed' "${begun}QI 1.500000000\n"
+six 4 'field 2 is -0000000000, with 10 digits; nine are allowed' "${begun}PI 0,-0000000000\n"
+six 4 'field 1 is 1.5678, with 4 places; 2 are allowed' "${begun}BA 1.5678\n"
+six 4 'field 1 is 1.56780, with 4 places that count; 2 are allowed' "${begun}BA 1.56780\n"
+six 4 'field 1 is .00001, with 5 places; 4 are allowed' "${begun}PI .00001\n"
+six 2 'field 4 is 4.5, with 1 place; no places are allowed: whole numbers' '*FREE\nIT 60,,,4.5\n'
+six 2 'field 1 is 60.50, with 1 place that counts; no places are allowed: whole numbers' '*FREE\nIT 60.50,,,x\n'
+six 4 'field 2 is 0, and must be blank' "${begun}BA 1,0\n"
+six 4 'field 2 is 0.000, and must be blank' "${begun}PB ,0.000\n"
+six 2 'field 5 is 02JAN80, and must be blank' '*FREE\nIT 60,01JAN80,0000,,02JAN80,0000\n'
+six 4 'field 11 is 11; a line has ten fields at most' "${begun}QI 1,2,3,4,5,6,7,8,9,10,11\n"
+six 4 'field 12 is 1; a line has ten fields at most' "${begun}SV ,,,,,,,,,,,1\n"
+six 4 'field 11 is 0.5; a line has ten fields at most' "${timed}KM\nJR PREC,1,1,1,1,1,1,1,1,1,0.5\n"
+six 3 'field 1 is FLOW; only PREC may stand there' "${timed}JR FLOW,1\n"
+six 3 'field 1 is blank; PREC must stand there' "${timed}JR ,0.50\n"
+six 3 'field 1 is prec; only PREC may stand there' "${timed}JR prec,1\n"
+six 3 'field 2 is 0.125, with 3 places; 2 are allowed' "${timed}JR PREC,0.125\n"
+six 4 'field 3 is 851.2, with 1 place; no places are allowed: whole numbers' "${begun}RS 1,ELEV,851.2\n"
+six 4 'field 4 is 0., and must be blank' "${begun}RS 1,STOR,-1.,0.\n"
+six 3 'the name RESERVOIR has 9 characters; six are allowed' "${timed}KK RESERVOIR TWO\n"
+six 3 "the name 'A(B)-*C' has 7 characters; six are allowed" "${timed}KK A(B)-*C,D\n"
+six 3 'no name' "${timed}KK\n"
+six 4 'no name' "${timed}*FIX\nKK      TEXT\n"
+six 2 "the name 'A B' has a blank in it" "IT    60                       4\nKKA B\n"
+
+# 5: the records before it
+five() { why 5 "$@"; }
+five 1 'KK before IT: IT comes first' 'KK A\n'
+five 3 'ZZ before IT: IT comes first' 'ID\n*FREE\nZZ\n'
+five 3 'ID behind the IT of line 2: it stands before IT' "${timed}ID\n"
+five 5 'ID behind the IT of line 2: it stands before IT' "${begun}QI\nID\n"
+five 3 'a second IT; the first stands on line 2' "${timed}IT 60,,,4\n"
+five 6 'a second IT; the first stands on line 3' "KM IT\n${begun}\nIT\n"
+five 1 'JR before IT: it stands between IT and the first KK' 'JR\n'
+five 4 'JR behind the first KK: it stands between IT and the first KK' "${begun}JR PREC,0.50\n"
+five 4 'a second JR; the first stands on line 3' "${timed}JR PREC,1\nJR X\n"
+five 5 'a second JR; the first stands on line 3' "${timed}JR PREC,1\nKK A\nJR X\n"
+for record in BA PB PI LU UI QI HC RM RS SV SQ; do
+    five 2 "$record outside a block: IT and KK come first" "KM\n$record\n"
+    five 4 "$record outside a block: KK comes first" "${timed}KM\n$record 1\n"
+done
+for record in 'BA 1' 'PB 1' 'LU' 'HC 2' 'RM 1,1,.2' 'RS 1,STOR'; do
+    five 8 "a second ${record%% *} in the block; the first stands on line 6" "${begun}KM $record\n\n$record\nPI\n$record\n"
+done
+five 8 'a second BA in the block; the first stands on line 7' "${begun}BA 1\nQI\nKK B\nBA 1\nBA 2\n"
+
+# 4: what HEC-1 knows, slips of the pen, small letters, blanks, comments and controls
+four() { why 4 "$@"; }
+four 1 "BF is HEC-1's base flow, which this program does not compute: add it to an inflow, or leave the model to HEC-1" 'BF 1\n'
+four 4 "LS is HEC-1's curve number loss, which this program does not compute: write the excess on PI and LU alone, or leave the model to HEC-1" "${begun}LS 0,80\n"
+four 2 "IO is HEC-1's control of its output, which changes no flow: drop the line" 'ID\nIO 5\n'
+four 3 "IN is HEC-1's interval of lists, which this program does not read: write the lists by the interval on IT" "${timed}IN 15\n"
+four 1 "*LIST is HEC-1's control of its output, which changes no flow: drop the line" '*LIST \n'
+four 1 "*MESSAGE is HEC-1's note, which changes no flow: drop the line, or make it a KM" '*MESSAGE a pond\n'
+comment='a comment of HEC-1, which changes no flow: drop the line, or make it a KM'
+four 1 "$comment" '* my pond\n'
+four 2 "$comment" '*FREE\n*\n'
+four 1 "XX $no_record" 'XX 1\n'
+four 1 "1T $no_record" '1T 60\n'
+four 1 "K $no_record" 'K\n'
+four 1 "K, $no_record" 'K,K\n'
+four 1 'identifiers are in capitals: KK' 'kk a\n'
+four 1 'identifiers are in capitals: BA' 'Ba 1\n'
+four 1 'identifiers are in capitals: BF' 'bf 1\n'
+four 1 "xx $no_record" 'xx\n'
+four 1 'the identifier stands in columns 1 and 2' ' ID\n'
+four 1 'the identifier stands in columns 1 and 2' '        x\n'
+four 1 'only blanks may stand behind *FREE' '*FREE form\n'
+four 1 'only blanks may stand behind *FIX' '*FIXED\n'
+four 1 'controls are in capitals: *FREE' '*free\n'
+four 1 'controls are in capitals: *DIAGRAM' '*Diagram\n'
+four 1 "*DIAG is no control of HEC-1's manual: look for a slip of the pen" '*DIAG\n'
+four 1 "** is no control of HEC-1's manual: look for a slip of the pen" '** my pond\n'
+# every record and control of HEC-1's manual, but those that are read
+hec1_records='IN IM IO JP JD OU OR OS OF OO VS VV BF BR BI BZ DR DT DI DQ DO DC DD HB HL HQ HE KO KF KP LE LM LS LH MA MC MT MS MD MW
+    PC PG PH PM PS PR PT PW QO QS QP RN RL RC RX RY RK RT SA SE SL SS ST SW SG SB SO SD UC US UA UD UK WP WR WO WC WD
+    EC CN PN WN TN WT FR QF SF QD DG EP LO LC LD DU DL DP ZR ZW *LIST *NOLIST *DIAGRAM *MESSAGE'
+mkdir records
+set -f
+for record in $hec1_records; do
+    printf '%s 1\n' "$record" >"records/$record.hc1"
+    echo "$record"
+done | LC_ALL=C sort >"$scratch/expected"
+set +f
+"$hec1" -q records/*.hc1 2>&1 >/dev/null | sed -n "s/^records\/\(.*\)\.hc1:1: \(.*\) is HEC-1's [A-Za-z ,]*, which [a-z ]*: [A-Za-z0-9 ,'-]* (refusal 4): \2 1\$/\1 \2/p" |
+    awk '$1 == $2 { print $1 }' | LC_ALL=C sort >"$scratch/got"
+same "every record of HEC-1's manual" "$scratch/expected" "$scratch/got"
+rm -r records
+
+# 9: what is missing or too much
+nine() {
+    lines=$(printf '%b' "$2" | wc -l)
+    why 9 $((lines + 6)) "wrong set of records in the block of line 5: $1" "${timed}KK A\nQI\nKK B\n$2${3:-ZZ}\n"
+}
+nine 'the block has no record' ''
+nine 'the block has no record' 'KM BA\n\n*FREE\n' 'KK C'
+nine 'a basin wants PI, LU and UI too, an inflow QI' 'BA 1\n'
+nine 'a basin wants UI too' 'BA 1\nPI\nLU\n'
+nine 'a basin wants LU too' 'UI\nPI\nPB\nBA 1\nPI\n' 'KK C'
+nine 'a basin wants BA, PI, LU and UI too' 'PB 1\n'
+nine 'a basin wants BA and PI too' 'LU\nUI\n'
+nine 'a basin wants UI too, and takes no QI' 'BA 1\nPI\nLU\nQI\n'
+nine 'a basin takes no QI; take it out' 'BA 1\nPI\nLU\nUI\nQI\n'
+nine 'a basin takes no SV and SQ; take them out' 'BA 1\nPI\nLU\nUI\nSV\nSQ\n'
+nine 'QI and PI do not go together in one block' 'QI\nPI\n'
+nine 'QI and PB do not go together in one block' 'QI\nPB\nBA 1\n'
+nine 'QI and HC do not go together in one block' 'HC 2\nQI\n'
+nine 'QI does not go together with PI and LU in one block' 'QI\nPI\nLU\n'
+nine 'HC stands alone in its block; take BA out' 'BA 1\nHC 2\n'
+nine 'HC stands alone in its block; take BA and RM out' 'BA 1\nHC 2\nRM 1,1,.2\n'
+nine 'RM stands alone in its block; take RS out' 'RS 1,STOR\nRM 1,1,.2\n'
+nine 'a pond wants SQ too' 'RS 1,STOR\nSV\n'
+nine 'a pond wants RS and SQ too' 'SV\n'
+nine 'a pond wants RS and SQ too, and takes no BA' 'SV\nBA 1\n'
+nine 'a pond takes no BA; take it out' 'RS 1,STOR\nSV\nSQ\nBA 1\n'
+nine 'a pond takes no BA and PI; take them out' 'RS 1,STOR\nSV\nSQ\nPI\nBA 1\n'
+rm -f plain.hc1 dos.hc1 junk.hc1
+
+# a program that cannot tell, or tells what is not so: the words of the number, and the status stays
+input '*FREE\nIT 60,,,400\n'
+for answer in 'exit 3' 'exit 0' 'echo --' 'echo REFUSED 7 2; echo --' 'echo FIELD 4 LIMITS 0 1 300 400; exit 3' 'echo FIELD 4 LIMITS 0 1 300 401' 'echo FIELD x LIMITS 0 1 300 400' \
+    'echo FIELD 4 LIMITS 0 1 x 400' 'echo FIELD 4 NUMBER 0 1 300 400' 'echo FIELD 4 PLACES 0 1 300 1 400' 'echo FIELD 4 BLANK 400' 'echo FIELD 4 OTHER 0 1 300 400' 'echo NAME 60' 'echo INPUT CUT >&2' \
+    'echo FIELD' 'head -c 5000 /dev/zero'; do
+    printf '#!/bin/sh\nif [ "${1:-}" != --reason ]; then exec "%s" "$@"; fi\ncat >/dev/null\n%s\n' "$second" "$answer" >"$scratch/broken"
+    chmod +x "$scratch/broken"
+    try "the words by a program that says: $answer" 1 'REFUSED 7 2\n' '-:2: value outside its limits (refusal 7): IT 60,,,400\n' "$root/hec1" --program "$scratch/broken"
+done
+# what it is handed: the number, the form in force, and the bytes from the line on
+cat >"$scratch/counting" <<END
+#!/bin/sh
+if [ "\${1:-}" = --reason ]; then tee "$scratch/asked" | "$second" "\$@"; else exec "$second" "\$@"; fi
+END
+chmod +x "$scratch/counting"
+for deck in '*FREE\nIT 60,,,400\nZZ\n\0000\0377' '*FREE\r\n\r\nIT 60,,,400\r\n*FIX\r\n' 'IT 60,,,4' '*FREE\n*FIX  \nIT    60                     4.5\n' '*FREE\nKM\nKM *FIX\n\nIT 60,,,4\nKK\n'; do
+    input "$deck"
+    "$root/hec1" --program "$scratch/counting" -q <"$scratch/in" >"$scratch/out" 2>/dev/null
+    # shellcheck disable=SC2034
+    read -r first number line <"$scratch/out"
+    form=0
+    case $deck in 'IT'* | *'*FIX  \n'*) ;; *) form=1 ;; esac
+    tail -n "+$line" "$scratch/in" >"$scratch/rest"
+    case_of "$number" "$form" "$scratch/rest" >"$scratch/expected"
+    same "what is asked of $deck" "$scratch/expected" "$scratch/asked"
+done
+for option in '--records' '--sheet 1' '--hydrograph 1' '--hydrographs apart'; do
+    input '*FREE\nIT 60,,,400\n'
+    # shellcheck disable=SC2086
+    "$hec1" $option <"$scratch/in" >/dev/null 2>"$scratch/got"
+    holds "closer words with $option: status" test $? = 1
+    echo '-:2: field 4 is 400; ordinates are 1 to 300 (refusal 7): IT 60,,,400' >"$scratch/expected"
+    same "closer words with $option" "$scratch/expected" "$scratch/got"
+done
+
+# ---- the words beside the proved line, on decks of all sorts
+
+sh "$root/second/build-decks.sh" || exit 2
+writer=$root/target/second/decks
+mkdir "$scratch/decks" && cd "$scratch/decks" || exit 2
+"$writer" bundle 1 2000 >"$scratch/bundle"
+"$hec1" --bundle <"$scratch/bundle" >"$scratch/out" 2>"$scratch/err"
+holds 'decks of all sorts: status' test $? = 1
+awk '
+    first == "" { first = $0 }
+    $0 == "--" {
+        if (first ~ /^REFUSED /) print ++n - 1 ".hc1", substr(first, 9)
+        else n++
+        first = ""
+    }' "$scratch/out" >"$scratch/refused"
+# a line with the name, then the lines of the deck, and \003 behind the last: what is not plain text is shown as '?'
+while read -r name number; do
+    "$writer" one 1 "${name%.hc1}" >"$name"
+    printf '\001%s\n' "$name"
+    LC_ALL=C tr -c '\012\015\040-\176' '?' <"$name"
+    printf '\003\n'
+done <"$scratch/refused" >"$scratch/texts"
+sed 's/^\([^ ]*\) \(.*\)/== \1\nREFUSED \2/' "$scratch/refused" >"$scratch/expected"
+# shellcheck disable=SC2046
+"$hec1" -q $(sed 's/ .*//' "$scratch/refused") >"$scratch/got" 2>"$scratch/err"
+same 'decks of all sorts: the refusals of a bundle' "$scratch/expected" "$scratch/got"
+LC_ALL=C awk '
+    function wrong(why) { printf "%s: %s: %s\n", why, deck, $0 }
+    # what stands in the field of which the words tell: it is cut off before the rule
+    function value_of(said) {
+        sub(/^field [0-9]+ is /, "", said)
+        sub(/; (only [A-Z]+ may stand there|[A-Z]+ must stand there|a line has ten fields at most|commas want [*]FREE)$/, "", said)
+        sub(/; [A-Za-z ]+ (is|are) [0-9.,]+( to [0-9.,]+)?$/, "", said)
+        sub(/, with [0-9]+ (digits|places?|place that counts|places that count); .* allowed(: whole numbers)?$/, "", said)
+        sub(/, (and must be blank|which is no number|which reads as 0)$/, "", said)
+        if (said ~ /^\047.*\047$/) said = substr(said, 2, length(said) - 2)
+        return said
+    }
+    # whether the words of limits are true
+    function outside(value, said,    limit) {
+        sub(/.* (is|are) /, "", said)
+        gsub(/,/, "", said)
+        if (split(said, limit, " to ") < 2) limit[2] = limit[1]
+        if (value == "blank") value = 0
+        return value + 0 < limit[1] + 0 || value + 0 > limit[2] + 0
+    }
+    # whether those of places or digits are
+    function too_many(value, said,    many, most) {
+        if (said ~ /digits; nine are allowed$/) return gsub(/[0-9]/, "", value) > 9
+        sub(/^[^.]*[.]/, "", value)
+        sub(/0+$/, "", value)
+        many = said
+        sub(/.*, with /, "", many)
+        most = said
+        sub(/.*; (no )?/, "", most)
+        return length(value) == many + 0 && length(value) > most + 0
+    }
+    part == "refused" {
+        number[$1] = $2
+        line[$1] = $3
+        decks++
+        next
+    }
+    part == "texts" && /^\001/ {
+        deck = substr($0, 2)
+        n = 0
+        next
+    }
+    part == "texts" {
+        if (!sub(/\003$/, "")) sub(/\r$/, "")
+        gsub(/\r/, "?")
+        if (++n <= line[deck]) text[deck, n] = $0
+        next
+    }
+    {
+        deck = substr($0, 1, index($0, ".hc1:") + 3)
+        rest = substr($0, length(deck) + 2)
+        at = 0
+        if (rest ~ /^[0-9]+: /) {
+            at = rest + 0
+            sub(/^[0-9]+:/, "", rest)
+        }
+        match(rest, / \(refusal [0-9]+\)/)
+        said = substr(rest, 2, RSTART - 2)
+        told = substr(rest, RSTART + 10) + 0
+        quoted = substr(rest, RSTART + RLENGTH)
+        here = text[deck, at]
+        if (!(deck in number) || met[deck]++) wrong("another deck, or told twice")
+        if (told != number[deck] || at != line[deck]) wrong("another number or line")
+        if (quoted != (at ? ": " substr(here, 1, 80) : "")) wrong("another line is quoted")
+        if (said == "" || said ~ /does not know/) wrong("no words")
+        if (said ~ /^(unknown record|record out of place|field or name malformed|value outside its limits)/ || said ~ /^wrong set of records in the block of line [0-9]+$/) wrong("no closer words")
+        if ((said ~ /^(field [0-9]+ is |the name |no name$)/) != (told == 6 || told == 7)) wrong("words of a field")
+        if (said ~ /^field /) {
+            value = value_of(said)
+            if (value == said || value != "blank" && !index(here, value)) wrong("a field that does not stand there")
+            if ((said ~ /; [A-Za-z ]+ (is|are) [0-9.,]+( to [0-9.,]+)?$/) && !(told == 7 && outside(value, said))) wrong("limits that are kept")
+            if (said ~ /, with [0-9]/ && !(told == 6 && too_many(value, said))) wrong("places or digits that are allowed")
+        }
+        if (match(said, /first stands on line [0-9]+$/)) {
+            other = substr(said, RSTART + 21) + 0
+            if (told != 5 || other >= at || substr(text[deck, other], 1, 2) != substr(here, 1, 2)) wrong("another first")
+        }
+        if (told == 5 && index(said, substr(here, 1, 2)) > 10) wrong("another record")
+        if (match(said, /in the block of line [0-9]+/) && text[deck, substr(said, RSTART + 21) + 0] !~ /^KK/) wrong("another block")
+        if (told == 9 && said !~ /^wrong set of records in the block of line [0-9]+: ./) wrong("no set")
+        kinds[told]++
+    }
+    END {
+        for (deck in number) count++
+        for (deck in met) count--
+        if (count || !decks) print "decks without words: " count + 0
+        if (!(kinds[4] && kinds[5] && kinds[6] && kinds[7] && kinds[9])) print "a refusal is missing"
+    }' part=refused "$scratch/refused" part=texts "$scratch/texts" part=words "$scratch/err" >"$scratch/got"
+: >"$scratch/expected"
+same 'decks of all sorts: no words against the proved line' "$scratch/expected" "$scratch/got"
+cd "$place" || exit 2
 
 # ---- every refusal has its words, also those that the program cannot give
 
@@ -1097,6 +1425,15 @@ installed() {
     holds "$title: a program is missing: status" test $? = 2
     echo "hec1: $(CDPATH="" cd -- "${alone%/bin/hec1}" && pwd -P)/lib/evzorkhum/programs/sheet is missing; install the command again" >"$scratch/expected"
     same "$title: a program is missing" "$scratch/expected" "$scratch/out"
+    rm "${alone%/bin/hec1}/lib/evzorkhum/programs/reason"
+    env -u RATTLE_HOME PATH="$scratch/nothing" "$alone" pond.hc1 >"$scratch/out" 2>&1
+    holds "$title: the program for closer words is missing: status" test $? = 1
+    {
+        printf '%b' "$bad_list"
+        echo "hec1: $(CDPATH="" cd -- "${alone%/bin/hec1}" && pwd -P)/lib/evzorkhum/programs/reason is missing; install the command again"
+        echo 'pond.hc1:7: value outside its limits (refusal 7): PI 25.0'
+    } >"$scratch/expected"
+    same "$title: the program for closer words is missing" "$scratch/expected" "$scratch/out"
 }
 cd "$place" || exit 2
 printf '%b' "$record_a$whole" >new
@@ -1119,7 +1456,7 @@ mkdir -p "$kit/bin" "$libraries" "$repository/crates/hec1/src" "$repository/seco
 cp "$root/hec1" "$repository/"
 cp "$root/second/kit.sh" "$repository/second/"
 printf '%s\n' '# NAME: what it stands on' 'base:' 'middle: base io libc' 'other: base' 'hec1: middle' 'bundle: middle other bytes' 'store: base' \
-    'sheet: other' 'hydrograph: other' >"$repository/crates.txt"
+    'sheet: other' 'hydrograph: other' 'reason: other' >"$repository/crates.txt"
 echo '// a source' >"$repository/crates/hec1/src/main.rt"
 cat >"$kit/bin/rt" <<'END'
 #!/bin/sh
@@ -1177,17 +1514,41 @@ same 'first use: the log' "$scratch/expected" "$log"
 holds 'first use: one run of rt' runs 1
 try 'second use' 0 "$good_list" '' "$hec1" --quiet good.hc1
 holds 'second use: no run of rt' runs 1
+
+# closer words want the program reason; where it is not built the words are those of the number, and the status stays
+: >"$repository/fault"
+"$hec1" pond.hc1 pond.hc1 >"$scratch/got" 2>"$scratch/err"
+holds 'no program for closer words: status' test $? = 1
+printf '%b' "== pond.hc1\n${bad_list}== pond.hc1\n$bad_list" >"$scratch/expected"
+same 'no program for closer words: listings' "$scratch/expected" "$scratch/got"
+holds 'no program for closer words: it is tried once' runs 2
+{
+    printf '%s\n' 'hec1: which field is refused is told by one more program' "hec1: proving and building reason, which takes a while (log: ${log%hec1.log}reason.log)"
+    printf '%s\n' 'rt: base proved (unchanged since it was last proved)' 'fn middle::something: proved' 'rt: middle proved (12 s)' 'what was wrong'
+    echo "hec1: reason was not proved and built; all of the log is in ${log%hec1.log}reason.log"
+    for one in 1 2; do echo 'pond.hc1:7: value outside its limits (refusal 7): PI 25.0'; done
+} >"$scratch/expected"
+same 'no program for closer words: words' "$scratch/expected" "$scratch/err"
+rm "$repository/fault"
 input "$bad"
+"$hec1" <"$scratch/in" >"$scratch/got" 2>"$scratch/err"
+holds 'the program for closer words is built too: status' test $? = 1
+printf '%b' 'hec1: which field is refused is told by one more program\n' "hec1: proving and building reason, which takes a while (log: ${log%hec1.log}reason.log)\n" \
+    "hec1: reason is proved and built (N s)\n-$bad_words" >"$scratch/expected"
+sed 's/([0-9]* s)/(N s)/' "$scratch/err" >"$scratch/got"
+same 'the program for closer words: words' "$scratch/expected" "$scratch/got"
+holds 'the program for closer words: by its name' test "$(tail -n 1 "$RUNS")" = 'check reason'
 try 'second use, standard input' 1 "$bad_list" "-$bad_words" "$hec1"
+holds 'second use, refused: no run of rt' runs 3
 input ''
 touch "$repository/crates/hec1/src/main.rt"
 "$hec1" -q good.hc1 >/dev/null 2>&1
-holds 'a source is newer: built again' runs 2
+holds 'a source is newer: built again' runs 4
 touch "$repository/crates.txt"
 "$hec1" -q good.hc1 >/dev/null 2>&1
-holds 'crates.txt is newer: built again' runs 3
+holds 'crates.txt is newer: built again' runs 5
 try 'and then no more' 0 "$good_list" '' "$hec1" -q good.hc1
-holds 'and then no more: runs' runs 3
+holds 'and then no more: runs' runs 5
 echo '// another' >"$repository/crates/hec1/src/new.rt"
 : >"$repository/fault"
 "$hec1" good.hc1 >"$scratch/out" 2>"$scratch/err"
@@ -1198,7 +1559,7 @@ holds 'a build that fails: where the log is' test "$(tail -n 1 "$scratch/err")" 
 rm "$repository/fault"
 "$hec1" -q good.hc1 >"$scratch/got" 2>/dev/null
 holds 'the next build: status' test $? = 0
-holds 'the next build: runs' runs 5
+holds 'the next build: runs' runs 7
 "$hec1" --bundle good.hc1 >"$scratch/got" 2>/dev/null
 printf '%b--\n' "$good_list" >"$scratch/expected"
 same 'the program for bundles is built too' "$scratch/expected" "$scratch/got"
@@ -1214,7 +1575,7 @@ holds 'the program for sheets: by its name' test "$(tail -n 1 "$RUNS")" = 'check
 holds 'no program for warnings: status' test $? = 0
 printf '%b' "== short.hc1\n${good_list}== short.hc1\n$good_list" >"$scratch/expected"
 same 'no program for warnings: listings' "$scratch/expected" "$scratch/got"
-holds 'no program for warnings: it is tried once' runs 8
+holds 'no program for warnings: it is tried once' runs 10
 holds 'no program for warnings: no warning' sh -c '! grep -q warning: "$1"' sh "$scratch/err"
 rm "$repository/fault"
 "$hec1" short.hc1 >"$scratch/got" 2>"$scratch/err"
@@ -1226,17 +1587,17 @@ sed 's/([0-9]* s)/(N s)/' "$scratch/err" >"$scratch/got"
 same 'the program for warnings: words' "$scratch/expected" "$scratch/got"
 holds 'the program for warnings: by its name' test "$(tail -n 1 "$RUNS")" = 'check hydrograph'
 try 'the program for hydrographs' 0 "$out_flow" '' "$hec1" --hydrograph OUT basin.hc1
-holds 'the program for hydrographs: no run of rt' runs 9
+holds 'the program for hydrographs: no run of rt' runs 11
 if command -v flock >/dev/null 2>&1; then
     rm -r "$repository/target"
     for one in 1 2 3; do "$hec1" -q good.hc1 >"$scratch/got$one" 2>/dev/null & done
     wait
     printf '%b' "$good_list" >"$scratch/expected"
     for one in 1 2 3; do same "three first uses at once: $one" "$scratch/expected" "$scratch/got$one"; done
-    holds 'three first uses at once: one build' runs 10
+    holds 'three first uses at once: one build' runs 12
     rm -r "$repository/target"
     PAUSE=3 "$hec1" -q good.hc1 >"$scratch/got1" 2>/dev/null &
-    while ! runs 11; do sleep 0.1; done
+    while ! runs 13; do sleep 0.1; done
     try 'a second use while the first proves' 0 "$good_list" 'hec1: another start is proving the program; waiting for it\n' "$hec1" -q good.hc1
     wait
 fi
@@ -1267,7 +1628,7 @@ for step in 16 31; do
     } >"$scratch/expected"
     same "how far a proof is, by $step seconds" "$scratch/expected" "$scratch/got"
 done
-for program in bundle:4 store:2 sheet:3 hydrograph:3; do
+for program in bundle:4 store:2 sheet:3 hydrograph:3 reason:3; do
     echo 1000 >"$scratch/time"
     STEP=31 PATH=$scratch/clock:$PATH "$hec1" --install "$scratch/here" >/dev/null 2>"$scratch/err"
     holds "how many crates: $program" grep -q "^hec1: proving ${program%:*}: 1 of ${program#*:} crates (base)\$" "$scratch/err"
@@ -1319,7 +1680,7 @@ holds 'installed by the stand-in: words' test "$(tail -n 1 "$scratch/err")" = "h
 same 'installed by the stand-in: the command in the repository stays' "$scratch/before" "$hec1"
 (cd "$scratch/here" && find . -type f | LC_ALL=C sort) >"$scratch/got"
 printf './%s\n' bin/hec1 lib/evzorkhum/kit lib/evzorkhum/kit.sh lib/evzorkhum/programs/bundle lib/evzorkhum/programs/hec1 lib/evzorkhum/programs/hydrograph \
-    lib/evzorkhum/programs/sheet lib/evzorkhum/programs/store lib/evzorkhum/tools/lib/ld-linux-x86-64.so.2 lib/evzorkhum/tools/lib/libc.so.6 lib/other >"$scratch/expected"
+    lib/evzorkhum/programs/reason lib/evzorkhum/programs/sheet lib/evzorkhum/programs/store lib/evzorkhum/tools/lib/ld-linux-x86-64.so.2 lib/evzorkhum/tools/lib/libc.so.6 lib/other >"$scratch/expected"
 same 'installed by the stand-in: its files' "$scratch/expected" "$scratch/got"
 try 'installed once more' 0 '' "hec1: $(CDPATH="" cd -- "$scratch/here" && pwd -P)/bin/hec1 is installed\n" "$hec1" --install "$scratch/here"
 mkdir "$scratch/to the"
