@@ -403,6 +403,9 @@ set +f
     awk '$1 == $2 { print $1 }' | LC_ALL=C sort >"$scratch/got"
 same "every record of HEC-1's manual" "$scratch/expected" "$scratch/got"
 rm -r records
+grep '^| ' "$root/docs/USERS.md" | tr -c '*A-Z0-9`' '\n' | sed -n 's/^`\([*A-Z][A-Z]*\)`$/\1/p' | LC_ALL=C sort -u | LC_ALL=C comm -13 - "$scratch/expected" >"$scratch/got"
+holds "the guide has every record of HEC-1's manual in a table" test ! -s "$scratch/got"
+holds 'no limit of a field stands in the command' sh -c '! grep -q "1,*440\|9,*999\|9[.]99" "$1"' sh "$root/hec1"
 
 # 9: what is missing or too much
 nine() {
