@@ -1,5 +1,4 @@
 -- Reasons in figures: what is told of lines that are refused by 6 and by 7, of every sort, in both forms. A table, by computation.
-use Prim.Native.Nat.{ℕ}
 use mathlib.Core.Path.{refl}
 use mathlib.Core.Bool.{true, false}
 use mathlib.Core.List.{List, [], _∷_}

@@ -4,23 +4,23 @@
 --     faulty-inside    a field that is a fault has no value outside its limits
 --     refused-faulty, refused-six, refused-seven    whether a field is refused, by what was read of it
 use Prim.Native.Nat.{ℕ, zero, suc, _-_, _≤_, _<_}
-use mathlib.Core.Path.{_≡_, refl, sym, ap, _∙_}
+use mathlib.Core.Path.{_≡_, refl, sym}
 use mathlib.Core.Bool.{Bool, true, false, _&&_, not, true≢false}
 use mathlib.Core.Logic.{⊎-elim}
-use mathlib.Core.List.{List, [], _∷_, _++_, append-nil}
+use mathlib.Core.List.{List, [], _++_, append-nil}
 use native.Mathlib.Omega.{arith}
-use borrow.Author.Tests.{eq-eqb, ne-eqb}
+use borrow.Author.Tests.{ne-eqb}
 use lib.ListN.{length, replicate, getD-replicate, List·getD-eq-default}
 use Rattle.sequences.specs.Choices.{below-or-not}
 use Rattle.meaning.specs.Words.{_=?_, if_then_else_}
 use Rattle.meaning.specs.Numbers.{Value, Malformed, Negative, Units, numberOf, inUnits}
-use Rattle.meaning.specs.Records.{Rule, Unnamed, NotRead, Limited, Worded, Row, Once, Listed, Item, rowOf, rulesIn, rulesOf, ratioRules, timeRules, filledUp, valueFields, ruleAt, isMalformed, isOutside, isOther, wordIn, faultyField, outsideField}
+use Rattle.meaning.specs.Records.{Rule, Unnamed, NotRead, Limited, Worded, Row, Once, Listed, Item, rowOf, rulesOf, ratioRules, timeRules, filledUp, valueFields, ruleAt, isMalformed, isOutside, isOther, wordIn, faultyField, outsideField}
 use Rattle.meaning.specs.Run.{ratioFields}
 use Rattle.meaning.specs.Reasons.{firstField, refusedBy}
 use Rattle.rules.specs.Rules.{FewPlaces}
-use Rattle.records.specs.Rows.{items, fieldRow, rulesBy, spanIn, block-row, ratioScan}
+use Rattle.records.specs.Rows.{items, rulesBy, spanIn, block-row, ratioScan}
 use Rattle.scanning.specs.WholeLine.{valueFieldsIn, fields-in}
-use Rattle.reasons.specs.Stated.{statedRules, namedIn, statedFields}
+use Rattle.reasons.specs.Stated.{statedRules, statedFields}
 
 -- THE FIELDS of a record of a block
 row-fields : (row : Row) (fs : List (List ℕ)) → fs ++ replicate (spanIn row 0 - length fs) [] ≡ valueFieldsIn row fs

@@ -2,7 +2,7 @@
 --     counted                      the count that the loop comes to, from a field on
 --     count-first, count-end       at the first field, and where none is left
 --     count-filled, count-blank    a turn past a field that is not blank, and past a blank one
-use Prim.Native.Nat.{ℕ, zero, suc, _+_, _-_, _≤_, _<_}
+use Prim.Native.Nat.{ℕ, _+_, _-_, _≤_, _<_}
 use mathlib.Core.Path.{_≡_, refl, sym, ap, _∙_}
 use mathlib.Core.Bool.{Bool, true, false}
 use mathlib.Core.List.{List, [], _∷_}

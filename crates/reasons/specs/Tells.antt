@@ -5,12 +5,12 @@
 --     refused-told    a line that is refused by 6, or by 7, wherever the reading stands, holds a record that tells why
 use Prim.Native.Nat.{ℕ, zero, suc, _+_, _<_}
 use mathlib.Core.Path.{_≡_, refl, sym, ap, _∙_}
-use mathlib.Core.Bool.{Bool, true, false, _||_, not, true≢false}
+use mathlib.Core.Bool.{Bool, true, false, _&&_, _||_, not, true≢false}
 use mathlib.Core.List.{List, [], _∷_}
 use native.Mathlib.Nat.{add-zero}
 use native.Mathlib.Omega.{arith}
 use lib.ListN.{length, getD}
-use Rattle.meaning.specs.Words.{if_then_else_, empty, met, first}
+use Rattle.meaning.specs.Words.{_=?_, if_then_else_, empty, met, first}
 use Rattle.meaning.specs.Lines.{foreign, allBlank}
 use Rattle.meaning.specs.Fields.{Form, fieldsOf, nameIn}
 use Rattle.meaning.specs.Records.{Item, Record, ID, IT, JR, KK, KM, ZZ, Control, Of, Identified, Unknown, Known, identify, Rule, ruleAt, timeRules, ratioRules, rulesOf, filledUp, valueFields, faultyField, outsideField, anyField, badName}
@@ -78,25 +78,10 @@ before-eight false true d number other h = h
 before-eight false false true number other h = absurd (other h)
 before-eight false false false number other h = h
 
-three : (six : Bool) → 3 ≡ numberBy six → ⊥
-three true h = omega (arith, h)
-three false h = omega (arith, h)
-
-four : (six : Bool) → 4 ≡ numberBy six → ⊥
-four true h = omega (arith, h)
-four false h = omega (arith, h)
-
-none : (six : Bool) → 0 ≡ numberBy six → ⊥
-none true h = omega (arith, h)
-none false h = omega (arith, h)
-
-five : (six : Bool) → 5 ≡ numberBy six → ⊥
-five true h = omega (arith, h)
-five false h = omega (arith, h)
-
-eight : (six : Bool) → 8 ≡ numberBy six → ⊥
-eight true h = omega (arith, h)
-eight false h = omega (arith, h)
+-- any other number is neither of the two
+other : (number : ℕ) → (not (number =? 6) && not (number =? 7)) ≡ true → (six : Bool) → number ≡ numberBy six → ⊥
+other number neither true e = true≢false (sym (rw e at neither))
+other number neither false e = true≢false (sym (rw e at neither))
 
 -- of the fields of a line
 fields-told : (six : Bool) (rules : List Rule) (fs : List (List ℕ)) → first (met (anyField faultyField rules 0 fs) 6) (met (anyField outsideField rules 0 fs) 7) ≡ numberBy six
@@ -145,10 +130,10 @@ module _ (six : Bool) (l : List ℕ) where
   Refused e = e ≡ Refuse (numberBy six)
 
   passed : {A : Type 0} (e : Event) → numberIn e ≡ 0 → Refused e → A
-  passed e go h = absurd (none six (sym go ∙ ap numberIn h))
+  passed e go h = absurd (other 0 refl six (sym go ∙ ap numberIn h))
 
   out-of-place : {A : Type 0} → Refused (Refuse 5) → A
-  out-of-place h = absurd (five six (ap numberIn h))
+  out-of-place h = absurd (other 5 refl six (ap numberIn h))
 
   name-refused : (form : Form) (r : Reading) → Refused (unless (nameRefusal (nameIn form l)) (Open r)) → six ≡ true
   unfolding nameRefusal
@@ -161,7 +146,7 @@ module _ (six : Bool) (l : List ℕ) where
   ratios-told : (τ : Time) (form : Form) (r : Reading) → Refused (unless (ratioRefusal τ (fieldsOf form l)) (Go r)) → Tells six form l JR
   unfolding ratioRefusal
   ratios-told τ form r h =
-      fields-told six ratioRules (ratioFields (fieldsOf form l)) (behind-five (not (empty (τ .listed))) _ (numberBy six) (five six) (unless-go (ratioRefusal τ (fieldsOf form l)) r ∙ ap numberIn h))
+      fields-told six ratioRules (ratioFields (fieldsOf form l)) (behind-five (not (empty (τ .listed))) _ (numberBy six) (other 5 refl six) (unless-go (ratioRefusal τ (fieldsOf form l)) r ∙ ap numberIn h))
 
   item-told : (τ : Time) (form : Form) (b : Block) (item : Item) (r : Reading) → Refused (unless (itemRefusal τ b item (fieldsOf form l)) (Go r)) → Tells six form l (Of item)
   unfolding itemRefusal
@@ -169,8 +154,8 @@ module _ (six : Bool) (l : List ℕ) where
       fields-told six (rulesOf item) (valueFields item (fieldsOf form l))
       (before-eight
       (anyField faultyField (rulesOf item) 0 (valueFields item (fieldsOf form l))) (anyField outsideField (rulesOf item) 0 (valueFields item (fieldsOf form l)))
-      (tooMany τ item b (itemValues item (fieldsOf form l))) (numberBy six) (eight six)
-      (behind-five (repeated item b) _ (numberBy six) (five six) (unless-go (itemRefusal τ b item (fieldsOf form l)) r ∙ ap numberIn h)))
+      (tooMany τ item b (itemValues item (fieldsOf form l))) (numberBy six) (other 8 refl six)
+      (behind-five (repeated item b) _ (numberBy six) (other 5 refl six) (unless-go (itemRefusal τ b item (fieldsOf form l)) r ∙ ap numberIn h)))
 
   record-told : (r : Reading) (k : Record) → Refused (readRecord r l k) → Tells six (formIn r) l k
   record-told (BeforeTime form) ID h = passed _ refl h
@@ -210,7 +195,7 @@ module _ (six : Bool) (l : List ℕ) where
     where
       by : (t : Bool) → foreign l ≡ t → (u : Bool) → allBlank l ≡ u → (i : Identified) → identify l ≡ i
           → Refused (readBy (if t then Faulty 3 else if u then Skipped else holding i) r l) → LineTold r
-      by true e u f i g h = absurd (three six (ap numberIn h))
+      by true e u f i g h = absurd (other 3 refl six (ap numberIn h))
       by false e true f i g h = passed (Go r) refl h
-      by false e false f Unknown g h = absurd (four six (ap numberIn h))
+      by false e false f Unknown g h = absurd (other 4 refl six (ap numberIn h))
       by false e false f (Known k) g h = record { holds = k; is = rw (e, f, g); tells = record-told r k h }

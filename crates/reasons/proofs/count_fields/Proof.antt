@@ -1,6 +1,6 @@
 -- The loop keeps that what it comes to is the count of the line's fields, trailing blank ones dropped: the place behind the last one that is not blank.
 use Prim.Native.Nat.{ℕ, _+_, _-_, _≤_}
-use mathlib.Core.Path.{_≡_, refl, sym, _∙_}
+use mathlib.Core.Path.{_≡_, sym, _∙_}
 use mathlib.Core.Bool.{Bool}
 use mathlib.Core.List.{List}
 use native.Mathlib.Omega.{arith}

@@ -1,10 +1,9 @@
 -- JR names its word and one ratio; any other record as many as its row says.
-use Prim.Native.Nat.{suc, zero-le}
-use mathlib.Core.Path.{_≡_, refl}
+use Prim.Native.Nat.{zero-le}
+use mathlib.Core.Path.{refl}
 use borrow.Author.Needs.{needs}
 use borrow.Author.Tests.{eq-eqb, ne-eqb}
 use native.Mathlib.Omega.{arith}
-use Rattle.meaning.specs.Words.{if_then_else_}
 use Rattle.sequences.specs.Choices.{taken, passed}
 use Rattle.records.specs.Rows.{span-few}
 use Rattle.reasons.proofs.named_fields.Statement.{statement}

@@ -1,5 +1,4 @@
 -- Each arm is that of the definition.
-use mathlib.Core.Path.{_≡_}
 use borrow.Author.Needs.{needs}
 use Rattle.reasons.proofs.raise.Statement.{statement}
 use Rattle.reasons.proofs.raise.Tie as tie

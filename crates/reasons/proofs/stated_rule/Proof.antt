@@ -1,5 +1,5 @@
 -- The rule of the reading; of JR a number's lowest value is raised to 1.
-use mathlib.Core.Path.{_≡_, sym, ap, _∙_}
+use mathlib.Core.Path.{sym, ap, _∙_}
 use borrow.Author.Needs.{needs}
 use Rattle.meaning.specs.Records.{ruleAt}
 use Rattle.records.specs.Rows.{rulesBy}

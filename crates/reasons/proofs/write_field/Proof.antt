@@ -1,14 +1,11 @@
 -- The line in its six parts, each written where the one before it ends.
 use Prim.Native.Nat.{_+_, _≤_}
-use mathlib.Core.Path.{_≡_}
 use native.Mathlib.Omega.{arith}
 use borrow.Author.Needs.{needs}
-use lib.ListN.{length}
-use Rattle.meaning.specs.Reasons.{fieldLine}
 use Rattle.rules.specs.Rules.{ruleBy}
 use Rattle.text.specs.Digits.{whole-within}
 use Rattle.text.specs.Written.{written-more}
-use Rattle.reasons.specs.Sizes.{whySize, reasonSize}
+use Rattle.reasons.specs.Sizes.{whySize}
 use Rattle.reasons.specs.Texts.{field-short, field-parts}
 use Rattle.reasons.proofs.write_field.Statement.{statement}
 use Rattle.reasons.proofs.write_field.Tie as tie

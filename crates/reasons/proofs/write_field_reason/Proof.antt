@@ -1,8 +1,6 @@
 -- By the rule.
-use mathlib.Core.Path.{_≡_, ap}
 use borrow.Author.Needs.{needs}
 use Rattle.meaning.specs.Reasons.{fieldReason}
-use Rattle.rules.specs.Rules.{ruleBy}
 use Rattle.reasons.proofs.write_field_reason.Statement.{statement}
 use Rattle.reasons.proofs.write_field_reason.Tie as tie
 

@@ -7,13 +7,13 @@ use native.Mathlib.Omega.{arith}
 use borrow.Author.Needs.{needs}
 use lib.ListN.{length, take}
 use Rattle.sequences.specs.Parts.{part, length-part}
-use Rattle.meaning.specs.Fields.{Form, fieldsOf}
+use Rattle.meaning.specs.Fields.{fieldsOf}
 use Rattle.meaning.specs.Records.{Item, Rule, ruleAt}
 use Rattle.meaning.specs.Reasons.{fieldLine, firstField, refusedBy}
-use Rattle.fields.specs.Spans.{formOf, Stands, firstPlace}
+use Rattle.fields.specs.Spans.{formOf, Stands}
 use Rattle.fields.specs.Turns.{first-stands}
 use Rattle.rules.specs.Rules.{ruleBy}
-use Rattle.scanning.specs.FieldsLeft.{leftFields, leftBy, SpanTurn, span-turn}
+use Rattle.scanning.specs.FieldsLeft.{leftFields, SpanTurn, span-turn}
 use Rattle.text.specs.Written.{Written, written-none}
 use Rattle.reasons.specs.Stated.{statedRules, statedFields}
 use Rattle.reasons.specs.FirstFields.{seen-first, field-here, field-passed, still-left, none-seen}

@@ -1,8 +1,7 @@
 -- By the record: one with fields tells the first that is refused, a KK line its name, and any other nothing.
-use Prim.Native.Nat.{_<_}
-use mathlib.Core.Path.{_≡_, subst}
+use Prim.Native.Nat.{ℕ, _<_}
+use mathlib.Core.Path.{subst}
 use mathlib.Core.List.{List}
-use Prim.Native.Nat.{ℕ}
 use native.Mathlib.Omega.{arith}
 use borrow.Author.Needs.{needs}
 use Rattle.meaning.specs.Words.{if_then_else_}
