@@ -376,6 +376,7 @@ enum kind {
 struct block {
     unsigned seen;              /* one bit for each record met */
     struct text name;
+    unsigned line;              /* of its KK */
     uint32_t area;              /* hundredths of a square mile */
     uint32_t combine;
     struct storm storm;
@@ -401,10 +402,12 @@ enum phase {
 struct run {
     const struct room *room;
     struct named named;
+    const struct viewer *viewer;    /* NULL: nobody looks on */
     struct ratios ratios;
     unsigned place;             /* the pass's ratio, from 0 */
     size_t first_record;        /* of the pass, from 0 */
     bool free_form;
+    unsigned line;              /* that is being read */
     enum phase phase;
     uint32_t minutes;
     unsigned nq;
@@ -420,10 +423,11 @@ static unsigned bit(enum record record)
 }
 
 /* The arrays of values need no clearing, only their counts. */
-static void open_block(struct block *block, struct text name)
+static void open_block(struct block *block, struct text name, unsigned line)
 {
     block->seen = 0;
     block->name = name;
+    block->line = line;
     block->area = 0;
     block->storm = (struct storm){ false, 0 };
     block->rain.count = 0;
@@ -501,6 +505,21 @@ static void hand_out(struct run *run, enum kind kind, uint32_t area,
         hand_out_ordinates(run, flow);
 }
 
+/* Shows the block just worked, whose hydrograph is the last held. */
+static void show(const struct run *run, enum kind kind, unsigned taken,
+                 const uint64_t *flow)
+{
+    const struct block *block = &run->block;
+    unsigned place = run->held - 1;
+    const struct worked worked = {
+        block->name.at, block->name.length, kind, block->line, taken, place,
+        run->area[place], run->minutes, run->nq, flow
+    };
+
+    if (run->viewer != NULL)
+        run->viewer->view(run->viewer->keeper, &worked);
+}
+
 /* Area of the hydrograph that a block leaves in a place.  Confluence, routing
  * and pond find the areas that they take there and behind it. */
 static uint32_t area_left(const struct run *run, enum kind kind,
@@ -574,6 +593,7 @@ static enum refusal close_block(struct run *run)
     run->area[place] = area_left(run, kind, place, taken);
     run->held = place + 1;
     hand_out(run, kind, run->area[place], flow, &summary);
+    show(run, kind, taken, flow);
     return ACCEPTED;
 }
 
@@ -640,7 +660,7 @@ static enum refusal take_kk(struct run *run, struct text line)
         return TOO_MANY_BLOCKS;
     run->blocks++;
     run->phase = IN_BLOCK;
-    open_block(&run->block, name);
+    open_block(&run->block, name, run->line);
     return ACCEPTED;
 }
 
@@ -758,6 +778,7 @@ static enum refusal take_lines(struct run *run, struct reader *reader)
         enum line_state state = next_line(reader, &line);
         if (state == LINE_NONE)
             break;
+        run->line = reader->line;
         if (state == LINE_BAD)
             refusal = BAD_LINE;
         else if (line.length > 0)
@@ -870,19 +891,37 @@ static struct answer run_passes(struct run *run, const uint8_t *deck,
     return accept(run);
 }
 
+/* The checks that come before all lines, and then the lines. */
+static struct answer run_from_start(struct run *run, const uint8_t *deck,
+                                    size_t length)
+{
+    if (run->room->work_words < WORK_WORDS)
+        return refuse(run->room, SHORT_WORK, 0);
+    if (length > DECK_LIMIT)
+        return refuse(run->room, LONG_DECK, 0);
+    run->ratios = (struct ratios){ false, 1, { WHOLE_RATIO } };
+    run->first_record = 0;
+    return run_passes(run, deck, length);
+}
+
 struct answer run_deck(const uint8_t *deck, size_t length, struct named named,
                        const struct room *room)
 {
     struct run run;
 
-    if (room->work_words < WORK_WORDS)
-        return refuse(room, SHORT_WORK, 0);
-    if (length > DECK_LIMIT)
-        return refuse(room, LONG_DECK, 0);
-
     run.room = room;
     run.named = named;
-    run.ratios = (struct ratios){ false, 1, { WHOLE_RATIO } };
-    run.first_record = 0;
-    return run_passes(&run, deck, length);
+    run.viewer = NULL;
+    return run_from_start(&run, deck, length);
+}
+
+struct answer view_deck(const uint8_t *deck, size_t length,
+                        const struct viewer *viewer, const struct room *room)
+{
+    struct run run;
+
+    run.room = room;
+    run.named = (struct named){ 0, 0 };
+    run.viewer = viewer;
+    return run_from_start(&run, deck, length);
 }

@@ -72,4 +72,28 @@ struct named {
 struct answer run_deck(const uint8_t *deck, size_t length, struct named named,
                        const struct room *room);
 
+/* A block as it was worked under one ratio.  Nothing of it outlasts the view. */
+struct worked {
+    const uint8_t *name;
+    unsigned name_length;
+    unsigned kind;
+    unsigned line;          /* of its KK */
+    unsigned taken;         /* so many hydrographs, the last held */
+    unsigned place;         /* at which its own is held, from 0 */
+    uint32_t area;
+    uint32_t minutes;       /* of an interval */
+    unsigned nq;
+    const uint64_t *flow;
+};
+
+struct viewer {
+    void (*view)(void *keeper, const struct worked *worked);
+    void *keeper;
+};
+
+/* Runs one deck and shows every block as it is worked, ratio by ratio.  The
+ * deck may still be refused when some have been shown. */
+struct answer view_deck(const uint8_t *deck, size_t length,
+                        const struct viewer *viewer, const struct room *room);
+
 #endif

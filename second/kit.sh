@@ -3,7 +3,7 @@
 # shellcheck shell=sh disable=SC2034
 
 # The sources of the second program, in this folder
-sources='main.c engine.c cards.c records.c pond.c mover.c sheet.c hydrograph.c reason.c'
+sources='main.c engine.c cards.c records.c pond.c mover.c sheet.c hydrograph.c reason.c page.c table.c network.c'
 
 # The refusals are 1 to this number. Two of them depend on the room that is lent: cases meet them, bundles do not.
 refusals=20

@@ -1,10 +1,10 @@
-/* The program around the engine, the mover, the sheet, the hydrograph and the
- * reasons: reads one deck, a bundle of decks or a bundle of cases from standard
+/* The program around the engine, the mover, the sheet, the hydrograph, the
+ * reasons, the table and the network: reads one deck, a bundle of decks or a bundle of cases from standard
  * input and prints listings (document 01, 'A deck and its listing', and document
  * 02, CR 3) or, in the full form, all that the engine leaves in the room lent to
  * it.  Likewise for files of records and the mover (document 02, CR 4), for the
  * sheets of runoff blocks (CR 5), for the hydrographs of any blocks and for the
- * reasons why lines are refused.
+ * reasons why lines are refused.  Tables and networks are of decks in files.
  *
  *   hec1                                  one deck, its listing
  *   hec1 --bundle                         length and deck, again and again
@@ -24,17 +24,22 @@
  *                                         fixed, any other free), length and
  *                                         bytes, again: why the line that they
  *                                         begin with is refused
+ *   hec1 --table FILE...                  the runoff summary of one deck or of
+ *                                         several; - is standard input
+ *   hec1 --network FILE                   the stream network of a deck
  *
  * Numbers in bundles have 4 bytes, little-endian.  Exit status 0 whether decks
  * and files are refused or not; 2 when the input is cut short, asks for what
- * there is not or the call is wrong, and when a sheet does not add up to the
- * engine's ordinates.  With --store the refusal goes to standard error, and so
+ * there is not or the call is wrong, when a file cannot be read, and when a
+ * sheet does not add up to the engine's ordinates.  With --store the refusal goes to standard error, and so
  * does INPUT CUT where nothing that is known is asked. */
 #include "engine.h"
 #include "hydrograph.h"
 #include "mover.h"
+#include "network.h"
 #include "reason.h"
 #include "sheet.h"
+#include "table.h"
 
 #include <stdbool.h>
 #include <stdio.h>
@@ -420,9 +425,33 @@ static size_t read_to_end(uint8_t *at, size_t room)
     return length;
 }
 
+static void stop_at(const char *path)
+{
+    fprintf(stderr, "hec1: cannot read %s\n", path);
+    exit(EXIT_TROUBLE);
+}
+
 static size_t read_only_deck(void)
 {
     return read_to_end(deck, sizeof deck);
+}
+
+/* Reads the deck of a path; - is standard input. */
+static size_t read_path(const char *path)
+{
+    FILE *file;
+    size_t length;
+
+    if (strcmp(path, "-") == 0)
+        return read_only_deck();
+    file = fopen(path, "rb");
+    if (file == NULL)
+        stop_at(path);
+    length = fread(deck, 1, sizeof deck, file);
+    if (ferror(file))
+        stop_at(path);
+    fclose(file);
+    return length;
 }
 
 enum {
@@ -550,6 +579,41 @@ static void run_store(void)
         fputs("INPUT CUT\n", stderr);
 }
 
+/* ---- Tables and networks ---------------------------------------------- */
+
+static void print_page(struct page *page)
+{
+    fwrite(page->at, 1, page->length, stdout);
+    free(page->at);
+}
+
+/* All files are read before anything is printed. */
+static void run_table(char **paths, size_t count)
+{
+    struct table_deck *decks = get_room(count, sizeof *decks);
+    struct page page = { 0 };
+
+    for (size_t k = 0; k < count; k++) {
+        size_t length = read_path(paths[k]);
+
+        work_table(paths[k], deck, length, enough_room(), &decks[k]);
+    }
+    write_table(decks, count, &page);
+    print_page(&page);
+    for (size_t k = 0; k < count; k++)
+        free_table(&decks[k]);
+    free(decks);
+}
+
+static void run_network(const char *path)
+{
+    struct page page = { 0 };
+    size_t length = read_path(path);
+
+    write_network(path, deck, length, enough_room(), &page);
+    print_page(&page);
+}
+
 /* ---- The call --------------------------------------------------------- */
 
 static uint64_t option_value(const char *text)
@@ -591,6 +655,34 @@ static enum mode mode_of(const char *word)
     return LISTING;
 }
 
+static int finish(void)
+{
+    if (fflush(stdout) != 0 || ferror(stdout))
+        stop("cannot write");
+    return EXIT_SUCCESS;
+}
+
+/* The modes that have words of their own behind them, whatever those look
+ * like. */
+static bool run_on_files(int argc, char **argv)
+{
+    const char *word = argc > 1 ? argv[1] : "";
+
+    if (strcmp(word, "--table") == 0) {
+        if (argc < 3)
+            stop("--table wants files");
+        run_table(argv + 2, (size_t)argc - 2);
+        return true;
+    }
+    if (strcmp(word, "--network") == 0) {
+        if (argc != 3)
+            stop("--network wants a file");
+        run_network(argv[2]);
+        return true;
+    }
+    return false;
+}
+
 int main(int argc, char **argv)
 {
     struct wish wish = {
@@ -598,6 +690,8 @@ int main(int argc, char **argv)
     };
     enum mode mode = LISTING;
 
+    if (run_on_files(argc, argv))
+        return finish();
     for (int k = 1; k < argc; k++) {
         enum mode asked = mode_of(argv[k]);
 
@@ -649,7 +743,5 @@ int main(int argc, char **argv)
         break;
     }
 
-    if (fflush(stdout) != 0 || ferror(stdout))
-        stop("cannot write");
-    return EXIT_SUCCESS;
+    return finish();
 }
