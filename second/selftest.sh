@@ -1904,7 +1904,8 @@ sed 's/flow\[i + j\] +=/flow[i + j] =/' engine.c >"$scratch/engine.c"
 cmp -s engine.c "$scratch/engine.c"
 check 'an engine is spoilt' 1 $?
 spoilt=$scratch/spoilt
-"${CC:-gcc}" -std=c11 -I. -o "$spoilt" "$scratch/engine.c" main.c cards.c records.c pond.c mover.c sheet.c hydrograph.c reason.c || exit 1
+# shellcheck disable=SC2086
+"${CC:-gcc}" -std=c11 -I. -o "$spoilt" ${sources/engine.c/$scratch/engine.c} || exit 1
 got=$(printf '%b' "$(sheet_of 1 0 "$pond")$(sheet_of 1 1 "$jr_runoff")$(sheet_of 1 0 "$pond")" | "$spoilt" --sheet 2>&1; echo "status $?")
 check 'a sheet that does not add up' "$(printf '%b' "$up_sheet--\nhec1: the sums of a sheet are not the ordinates of its block\nstatus 2")" "$got"
 
