@@ -9,7 +9,7 @@ flags="-std=c11 -O2 -Wall -Wextra -Wpedantic -Werror"
 $cc $flags -o "$out/decks" "$root/second/decks.c" "$root/second/decks_net.c" "$root/second/decks_ponds.c" \
     "$root/second/decks_write.c" "$root/second/decks_damage.c" "$root/second/decks_damage_ponds.c" \
     "$root/second/decks_moves.c" "$root/second/decks_sheets.c" "$root/second/decks_hydrographs.c" "$root/second/decks_zeros.c" \
-    "$root/second/decks_reasons.c"
+    "$root/second/decks_reasons.c" "$root/second/decks_tables.c"
 if [ -f "$root/second/check-pairs.c" ]; then
     $cc $flags -o "$out/check-pairs" "$root/second/check-pairs.c"
 fi

@@ -1,7 +1,8 @@
 /* The deck writer: seeded test decks for the engine of document 01, with the
    storm totals, losses, ratios, ponds and trailing zeros of document 02, CR 1 to
    CR 3, CR 6 and CR 7, files of records for the mover of CR 4, decks for the
-   sheet of CR 5 and for the hydrograph in print, and lines for the reasons. */
+   sheet of CR 5 and for the hydrograph, the table and the network in print, and
+   lines for the reasons. */
 #include <stdio.h>
 #include <stdlib.h>
 #include <string.h>
@@ -28,6 +29,8 @@ static const char help[] =
     "decks hydrographs SEED COUNT     COUNT cases of the hydrograph, with the same numbers\n"
     "decks reasons SEED COUNT         COUNT cases of the reasons: three 4-byte little-endian numbers (refusal,\n"
     "                                 form, length) and bytes that begin with a line\n"
+    "decks tables SEED COUNT FOLDER   COUNT lawful decks for the table and the network, as files 0001.hc1 and so\n"
+    "                                 on in that folder\n"
     "decks pairs SEED COUNT           COUNT pairs of decks, as in a bundle; each pair draws one network\n"
     "                                 in two orders and two manners of writing\n"
     "decks sound SEED COUNT           COUNT lawful decks, as in a bundle\n"
@@ -449,6 +452,36 @@ static void reasons(uint64_t seed, int count)
     }
 }
 
+/* ---- decks for the table and the network, as files ---- */
+
+static void write_file(const char *folder, int number, int n)
+{
+    char path[4096];
+    FILE *f = NULL;
+    if (snprintf(path, sizeof path, "%s/%04d.hc1", folder, number) < (int)sizeof path)
+        f = fopen(path, "wb");
+    if (f == NULL || fwrite(bytes, 1, (size_t)n, f) < (size_t)n || fclose(f) != 0) {
+        fprintf(stderr, "decks: cannot write to %s\n", folder);
+        exit(1);
+    }
+}
+
+static void tables(uint64_t seed, int count, const char *folder)
+{
+    int i;
+    for (i = 0; i < count; i++) {
+        rng_seed(seed, ((uint64_t)10 << 40) + (uint64_t)i);
+        do {
+            table_net(&net);
+            style_random(&style);
+            deck_write(&deck, &net, &style);
+            table_texts(&deck);
+        } while (deck_bytes(&deck, bytes) > LIMIT_BYTES);
+        fill_to = rnd(100) == 0 ? LIMIT_BYTES : 0;
+        write_file(folder, i + 1, finish());
+    }
+}
+
 /* ---- pairs ---- */
 
 static void pair_deck(void)
@@ -864,7 +897,8 @@ int main(int argc, char **argv)
     } else {
         int count = whole(argv[3], 0, 100000000, "COUNT");
         int aimed = !strcmp(what, "damaged"), number = 0;
-        if (argc != 4 + aimed)
+        int in_files = !strcmp(what, "tables");
+        if (argc != 4 + (aimed || in_files))
             return usage();
         if (aimed)
             number = whole(argv[4], 2, 20, "NUMBER");
@@ -886,6 +920,8 @@ int main(int argc, char **argv)
             hydrographs(seed, count);
         } else if (!strcmp(what, "reasons")) {
             reasons(seed, count);
+        } else if (in_files) {
+            tables(seed, count, argv[4]);
         } else if (!strcmp(what, "pairs")) {
             pairs(seed, count);
         } else if (!strcmp(what, "one")) {

@@ -44,7 +44,7 @@ build "$sheets" sheets.c cards.c records.c pond.c bundle.c
 build "$hydrographs" hydrographs.c cards.c records.c pond.c bundle.c
 build "$reasons_counter" reasons.c records.c bundle.c
 build "$decks" decks.c decks_net.c decks_ponds.c decks_write.c decks_damage.c decks_damage_ponds.c decks_moves.c decks_sheets.c \
-    decks_hydrographs.c decks_zeros.c decks_reasons.c
+    decks_hydrographs.c decks_zeros.c decks_reasons.c decks_tables.c
 
 # Nothing is looked for that was not freed: each run ends at once, and on some
 # machines the search takes seconds a run.
