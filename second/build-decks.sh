@@ -1,5 +1,5 @@
 #!/bin/sh
-# Builds the deck writer, the pair checker and the counters of losses, ratios, moves, sheets, hydrographs, reasons, ponds and zeros into target/second.
+# Builds the deck writer, the pair checker and the counters of losses, ratios, moves, sheets, hydrographs, reasons, ponds, zeros and tables into target/second.
 set -eu
 root=$(CDPATH= cd -- "$(dirname -- "$0")/.." && pwd)
 out=$root/target/second
@@ -21,3 +21,5 @@ $cc $flags -o "$out/ponds" "$root/second/ponds.c" "$root/second/cards.c" "$root/
 $cc $flags -o "$out/zeros" "$root/second/zeros.c" "$root/second/records.c" "$root/second/pond.c" "$root/second/bundle.c"
 $cc $flags -o "$out/reasons" "$root/second/reasons.c" "$root/second/records.c" "$root/second/bundle.c"
 $cc $flags -o "$out/moves" "$root/second/moves.c" "$root/second/mover.c" "$root/second/bundle.c"
+$cc $flags -o "$out/tables" "$root/second/tables.c" "$root/second/table.c" "$root/second/page.c" "$root/second/engine.c" \
+    "$root/second/cards.c" "$root/second/records.c" "$root/second/pond.c"
