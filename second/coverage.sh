@@ -1,5 +1,5 @@
 #!/bin/sh
-# coverage.sh [--program PROGRAM] [SEED [BUNDLE [CASES [PAIRS [MOVES [SHEETS [HYDROGRAPHS [REASONS]]]]]]]]
+# coverage.sh [--program PROGRAM] [SEED [BUNDLE [CASES [PAIRS [MOVES [SHEETS [HYDROGRAPHS [REASONS [TABLES]]]]]]]]]
 # Writes decks and files of records, runs them through the second program and
 # counts the answers.
 # The program is target/second/hec1, built here, or the one named with --program.
@@ -21,8 +21,10 @@
 # edge or do not tell a wrong rule from the right one, when the reasons lack a
 # field that 6 or 7 can be told of, in either form, when a sheet is not the one
 # that its counter works out, a hydrograph not the one that its counter writes
-# or a reason not the one that its counter finds, when a sound or a long deck is
-# refused, or when a pair is violated.
+# or a reason not the one that its counter finds, when the decks of the tables
+# lack an edge or do not tell a wrong rule from the right one, or a table of
+# theirs is not the one that its counter works out, when a network does not hang
+# together, when a sound or a long deck is refused, or when a pair is violated.
 set -u
 root=$(CDPATH= cd -- "$(dirname -- "$0")/.." && pwd)
 . "$root/second/kit.sh" || exit 2
@@ -39,6 +41,7 @@ moves=${5:-4000}
 sheets=${6:-2000}
 hydrographs=${7:-2000}
 reasons=${8:-2000}
+tables=${9:-500}
 decks=$root/target/second/decks
 sh "$root/second/build-decks.sh" || exit 2
 if [ -z "$hec1" ]; then
@@ -88,6 +91,55 @@ count() {
         }'
 }
 
+# drawn: every network on standard input hangs together.  Where so many are held
+# and none is routed, either one more is held behind the next block, or 2 to 5
+# have become one and the block's row ends with a dot below the last of them.  Of
+# a block that is routed the number stays.  In the end one is held.
+drawn() {
+    awk '
+        function bad(what) { if (++wrong <= 5) print "    network " n ": " what }
+        function stems(last,    c, text) {
+            text = sprintf("%12s", "")
+            for (c = 1; c < now; c++) text = text ".         "
+            return text last
+        }
+        # the row since the last stems, now that so many are held
+        function close_row(    joined) {
+            joined = held - now + 1
+            if (routed ? now != held : now != held + 1 && (joined < 2 || joined > 5))
+                bad(held " held, then " now)
+            if (!routed && now <= held && (length(row) != 13 + 10 * (held - 1) || row !~ /[.]$/))
+                bad("not joined: " row)
+            held = now
+        }
+        function close_network() {
+            if (n > 0) { now = 1; close_row() }
+            held = routed = at = number = 0
+        }
+        /^STREAM NETWORK: / { close_network(); n++ }
+        { at++ }
+        at < 5 { next }
+        at % 3 == 2 {
+            row = $0
+            if (substr(row, 1, 6) !~ /^ *[0-9]+$/ || substr(row, 1, 6) + 0 <= number) bad("no line: " row)
+            number = substr(row, 1, 6) + 0
+            next
+        }
+        at % 3 == 0 {
+            now = (length($0) - 3) / 10
+            close_row()
+            routed = /V$/
+            upper = $0
+            if ($0 != stems(routed ? "V" : ".")) bad("no stems: " $0)
+        }
+        at % 3 == 1 && $0 != upper { bad("other stems: " $0) }
+        END {
+            close_network()
+            print "networks " n + 0
+            exit wrong > 0 || n == 0
+        }'
+}
+
 "$decks" bundle "$seed" "$bundle" > "$work/decks"
 "$hec1" --bundle < "$work/decks" > "$work/out" || failed=$((failed + 1))
 check count bundle "$(deck_refusals)" < "$work/out"
@@ -125,6 +177,15 @@ echo "reasons  $(grep -c '^--$' "$work/out")"
 check "$root/target/second/reasons" < "$work/decks"
 "$root/target/second/reasons" --text < "$work/decks" > "$work/text" || failed=$((failed + 1))
 check cmp "$work/text" "$work/out"
+
+mkdir "$work/tables"
+"$decks" tables "$seed" "$tables" "$work/tables" || failed=$((failed + 1))
+echo "tables   $tables"
+check "$root/target/second/tables" "$work/tables"/*.hc1
+for deck in "$work/tables"/*.hc1; do
+    "$hec1" --network "$deck" || failed=$((failed + 1))
+done > "$work/out"
+check drawn < "$work/out"
 
 "$decks" sound "$seed" "$pairs" > "$work/decks"
 "$hec1" --bundle < "$work/decks" > "$work/out" || failed=$((failed + 1))

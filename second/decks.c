@@ -466,19 +466,23 @@ static void write_file(const char *folder, int number, int n)
     }
 }
 
+/* Of a hundred decks one has the most blocks, and one its first line far down. */
 static void tables(uint64_t seed, int count, const char *folder)
 {
     int i;
     for (i = 0; i < count; i++) {
         rng_seed(seed, ((uint64_t)10 << 40) + (uint64_t)i);
         do {
-            table_net(&net);
+            table_net(&net, i % 100 == 50);
             style_random(&style);
             deck_write(&deck, &net, &style);
             table_texts(&deck);
         } while (deck_bytes(&deck, bytes) > LIMIT_BYTES);
-        fill_to = rnd(100) == 0 ? LIMIT_BYTES : 0;
-        write_file(folder, i + 1, finish());
+        if (i % 100 == 25) {
+            deck_fill(&deck, LIMIT_BYTES, 3);
+            deck.padat = 0;
+        }
+        write_file(folder, i + 1, deck_bytes(&deck, bytes));
     }
 }
 

@@ -174,7 +174,7 @@ void one_above(const Net *n, uint32_t *block, uint32_t *ratio);   /* both by one
 int reason_case(int index, uint32_t *number, uint32_t *form, unsigned char *out);   /* length */
 
 /* ---- decks for the table and the network in print ---- */
-void table_net(Net *n);
+void table_net(Net *n, int many);  /* many: with as many blocks as there can be */
 void table_texts(Deck *d);         /* the texts of its ID lines, made odd */
 
 #endif

@@ -199,8 +199,7 @@ enum { ANY, AT_A_HALF, NO_FLOW, EQUAL_PEAKS, LATE_PEAK, DEEP, MANY_BLOCKS };
 static int pick_aim(void)
 {
     int r = rnd(100);
-    return r < 35 ? AT_A_HALF : r < 42 ? NO_FLOW : r < 50 ? EQUAL_PEAKS : r < 57 ? LATE_PEAK : r < 62 ? DEEP
-         : r < 63 ? MANY_BLOCKS : ANY;
+    return r < 35 ? AT_A_HALF : r < 42 ? NO_FLOW : r < 50 ? EQUAL_PEAKS : r < 57 ? LATE_PEAK : r < 62 ? DEEP : ANY;
 }
 
 static void it_values(Net *n, int aim)
@@ -240,9 +239,9 @@ static void aim_at(Net *n, int aim)
     net_ponds(n, PONDS_LIMITED);                   /* there is other water now */
 }
 
-void table_net(Net *n)
+void table_net(Net *n, int many)
 {
-    int aim = pick_aim();
+    int aim = many ? MANY_BLOCKS : pick_aim();
     it_values(n, aim);
     if (aim == DEEP)
         net_random(n, between(25, 45), LIMIT_HELD, 4, FLOW_SHARE, 12);

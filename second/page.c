@@ -43,7 +43,8 @@ static char *more(struct page *page, size_t count)
 
 void put_bytes(struct page *page, const void *bytes, size_t count)
 {
-    memcpy(more(page, count), bytes, count);
+    if (count > 0)          /* nothing may well be nowhere */
+        memcpy(more(page, count), bytes, count);
 }
 
 void put_text(struct page *page, const char *text)

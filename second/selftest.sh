@@ -18,6 +18,7 @@ hydrographs=$out/hydrographs-checked
 reasons_counter=$out/reasons-checked
 ponds=$out/ponds-checked
 zeros_counter=$out/zeros-checked
+tables=$out/tables-checked
 decks=$out/decks-checked
 mkdir -p "$out"
 scratch=$(mktemp -d) || exit 1
@@ -43,6 +44,7 @@ build "$moves" moves.c mover.c bundle.c
 build "$sheets" sheets.c cards.c records.c pond.c bundle.c
 build "$hydrographs" hydrographs.c cards.c records.c pond.c bundle.c
 build "$reasons_counter" reasons.c records.c bundle.c
+build "$tables" tables.c table.c page.c engine.c cards.c records.c pond.c
 build "$decks" decks.c decks_net.c decks_ponds.c decks_write.c decks_damage.c decks_damage_ponds.c decks_moves.c decks_sheets.c \
     decks_hydrographs.c decks_zeros.c decks_reasons.c decks_tables.c
 
@@ -2689,6 +2691,437 @@ for rest in '\x01' "$(le4 6)" "$(le4 6)$(le4 0)" "$(le4 6)$(le4 0)\x01\x00\x00" 
 done
 check 'two modes, one of them the reason' 'status 2, said' "$(run --reason --sheet </dev/null)"
 
+# ---- Tables and networks -----------------------------------------------------
+
+mkdir "$scratch/decks"
+
+# put FILE DECK: a deck as a file
+put() { printf '%b' "$2" >"$scratch/decks/$1"; }
+
+# prints WHAT WORD...: what the program prints with these words where the decks
+# are; the text that is expected comes in on standard input
+prints() {
+    local what=$1 expected got
+    shift
+    expected=$(cat; echo 'status 0, silent')
+    got=$(cd "$scratch/decks" && run "$@" </dev/null)
+    check "$what" "$expected" "$got"
+}
+
+# The deck of document 01.  Thousandths of an acre-foot: UP 168,000,000 * 60 /
+# 43,560,000 = 231.4, RIV 154,563,495 makes 212.9, SIDE 495.9, OUT 708.8.  Of an
+# inch over 1.50: 10,080,000,000 / (23,232,000 * 150) = 2.9, RIV 2.7, OUT 8.9.
+put pond.hc1 "$pond"
+prints 'a plain table' --table pond.hc1 <<'E'
+RUNOFF SUMMARY: pond.hc1
+POND
+
+OPERATION      STATION  PEAK CFS  TIME H:MM  ACRE-FEET  INCHES  SQ MILES
+HYDROGRAPH AT  UP           2.00       2:00      0.231   0.003      1.50
+ROUTED TO      RIV          1.37       3:00      0.213   0.003      1.50
+HYDROGRAPH AT  SIDE         2.00       2:00      0.496       -         -
+2 COMBINED AT  OUT          3.37       3:00      0.709   0.009      1.50
+E
+check 'a table of standard input' "$(sed 's/pond.hc1/-/' <<<"$(cd "$scratch/decks" && run --table pond.hc1)")" \
+    "$(printf '%b' "${pond//'\n'/'\r\n'}" | run --table -)"
+
+# Texts of ID.  A cfs for an hour is 60 * 60 / 43,560 acre-feet, 0.0826.
+put texts.hc1 'ID\nID   \nIDTWO WORDS   \nKM NOT THIS\nID    BOTH  ENDS  \r\n*FREE\nID,COMMA\nIT 60,,,1\nKK A\nQI 1\nZZ\nID LATE\n'
+prints 'texts of ID' --table texts.hc1 <<'E'
+RUNOFF SUMMARY: texts.hc1
+TWO WORDS
+BOTH  ENDS
+,COMMA
+
+OPERATION      STATION  PEAK CFS  TIME H:MM  ACRE-FEET  INCHES  SQ MILES
+HYDROGRAPH AT  A            1.00       1:00      0.083       -         -
+E
+
+# One ratio, no ID: 2 inches on 100 cfs an inch.  200 * 60 * 60 / 43,560 = 16.529
+# acre-feet, over 640 acres 16.529 * 12 / 640 = 0.3099 inches.
+put one.hc1 '*FREE\nIT 60,,,1\nJR PREC,2.0\nKK A\nBA 1\nPI 1\nLU\nUI 100\nZZ\n'
+prints 'one ratio' --table one.hc1 <<'E'
+RUNOFF SUMMARY: one.hc1, ratio 2.00
+
+OPERATION      STATION  PEAK CFS  TIME H:MM  ACRE-FEET  INCHES  SQ MILES
+HYDROGRAPH AT  A          200.00       1:00     16.529   0.310      1.00
+E
+
+# No flow, with an area and without.
+put zero.hc1 '*FREE\nIT 60,,,2\nKK DRY\nBA 1\nQI 0,0\nKK NONE\nQI\nKK SUM\nHC 2\nZZ\n'
+prints 'no flow' --table zero.hc1 <<'E'
+RUNOFF SUMMARY: zero.hc1
+
+OPERATION      STATION  PEAK CFS  TIME H:MM  ACRE-FEET  INCHES  SQ MILES
+HYDROGRAPH AT  DRY          0.00          -      0.000   0.000      1.00
+HYDROGRAPH AT  NONE         0.00          -      0.000       -         -
+2 COMBINED AT  SUM          0.00          -      0.000   0.000      1.00
+E
+
+# Halves.  HALF: 0.0605 inch are 36,300 depth units, times 10 hundredths 363,000
+# flow units; times 60 they are half of 43,560,000, and so 0.001.  UNDER has
+# 362,400, times 60 they are 21,744,000.  Both peaks are 0.6 hundredths.  PEAK has
+# 300,000 units, half a hundredth, and BELOW 299,940.  ALL has 1,325,340: 2.2
+# hundredths, times 60 1.8 thousandths.
+put halves.hc1 '*FREE\nIT 60,,,1\nKK HALF\nBA 1\nPI .0605\nLU\nUI .1\nKK UNDER\nBA 1\nPI .0604\nLU\nUI .1\nKK PEAK\nBA 1\nPI .5\nLU\nUI .01\nKK BELOW\nBA 1\nPI .4999\nLU\nUI .01\nKK ALL\nHC 4.00\nZZ\n'
+prints 'halves of acre-feet and of peaks' --table halves.hc1 <<'E'
+RUNOFF SUMMARY: halves.hc1
+
+OPERATION      STATION  PEAK CFS  TIME H:MM  ACRE-FEET  INCHES  SQ MILES
+HYDROGRAPH AT  HALF         0.01       1:00      0.001   0.000      1.00
+HYDROGRAPH AT  UNDER        0.01       1:00      0.000   0.000      1.00
+HYDROGRAPH AT  PEAK         0.01       1:00      0.000   0.000      1.00
+HYDROGRAPH AT  BELOW        0.00       1:00      0.000   0.000      1.00
+4 COMBINED AT  ALL          0.02       1:00      0.002   0.000      4.00
+E
+
+# 484 hundredths for a minute are 290,400,000: half of 23,232,000 * 25, which is
+# 0.001 inch over 0.25.  One hundredth less is 289,800,000; both are 6.7
+# thousandths of an acre-foot.  C: 580,200,000 of 1,161,600,000, which is 0.4995.
+put inches.hc1 '*FREE\nIT 1.0,,,1\nKK A\nBA .25\nQI 4.84\nKK B\nBA .25\nQI 4.83\nKK C\nHC 2\nZZ\n'
+prints 'halves of inches' --table inches.hc1 <<'E'
+RUNOFF SUMMARY: inches.hc1
+
+OPERATION      STATION  PEAK CFS  TIME H:MM  ACRE-FEET  INCHES  SQ MILES
+HYDROGRAPH AT  A            4.84       0:01      0.007   0.001      0.25
+HYDROGRAPH AT  B            4.83       0:01      0.007   0.000      0.25
+2 COMBINED AT  C            9.67       0:01      0.013   0.000      0.50
+E
+
+# Times: 9 * 7 minutes, a peak that is met twice, and the longest there is.  The
+# acre-feet are 33 * 7 * 60 / 43,560 = 0.3182, 6 * 30 * 60 / 43,560 = 0.2479 and
+# 1,440 * 60 / 43,560 = 1.9835.
+head='OPERATION      STATION  PEAK CFS  TIME H:MM  ACRE-FEET  INCHES  SQ MILES'
+put seven.hc1 '*FREE\nIT 7,,,9\nKK A\nQI 1,2,3,4,5,4,3,2,9\nZZ\n'
+prints 'minutes under ten' --table seven.hc1 <<E
+RUNOFF SUMMARY: seven.hc1
+
+$head
+HYDROGRAPH AT  A            9.00       1:03      0.318       -         -
+E
+put twice.hc1 '*FREE\nIT 30,,,4\nKK A\nQI 1,2,2,1\nZZ\n'
+prints 'the first of two peaks' --table twice.hc1 <<E
+RUNOFF SUMMARY: twice.hc1
+
+$head
+HYDROGRAPH AT  A            2.00       1:00      0.248       -         -
+E
+put late.hc1 "*FREE\nIT 1440,,,300\nKK A\n$(times 29 'QI ,,,,,,,,,0\n')QI ,,,,,,,,,1\nZZ\n"
+prints 'the longest time' --table late.hc1 <<E
+RUNOFF SUMMARY: late.hc1
+
+$head
+HYDROGRAPH AT  A            1.00    7200:00      1.983       -         -
+E
+
+# Columns that their cells make wider.  300 * 1,440 * 100,000 * 60 cubic feet are
+# 2,592e9, which are 59,504,132.2314 acre-feet; by 6.4 acres and in inches they
+# are 111,570,247.9339.
+put wide.hc1 "*FREE\nIT 1440,,,300\nKK LONGER\nBA .01\n$(times 30 'QI 100000,100000,100000,100000,100000,100000,100000,100000,100000,100000\n')ZZ\n"
+prints 'wide cells' --table wide.hc1 <<'E'
+RUNOFF SUMMARY: wide.hc1
+
+OPERATION      STATION   PEAK CFS  TIME H:MM     ACRE-FEET         INCHES  SQ MILES
+HYDROGRAPH AT  LONGER   100000.00      24:00  59504132.231  111570247.934      0.01
+E
+
+# Across: two ratios, a deck that is refused, another deck.  100 cfs for an hour
+# are 8.2645 acre-feet and over 640 acres 0.1550 inches.
+put two.hc1 'ID\nID TWICE\nID MORE\n*FREE\nIT 60,,,1\nJR PREC,1,2\nKK UP\nBA 1\nPI 1\nLU\nUI 100\nZZ\n'
+put bad.hc1 'ID BAD\n*FREE\nIT 60,,,4\nKK A\nQI -1\nZZ\n'
+prints 'across' --table two.hc1 bad.hc1 pond.hc1 <<'E'
+RUNOFF SUMMARY
+1  two.hc1, ratio 1.00: TWICE
+2  two.hc1, ratio 2.00: TWICE
+-  bad.hc1: REFUSED 7 5
+3  pond.hc1: POND
+
+OPERATION      STATION                  1       2      3
+HYDROGRAPH AT  UP       PEAK CFS   100.00  200.00   2.00
+                        TIME H:MM    1:00    1:00   2:00
+                        ACRE-FEET   8.264  16.529  0.231
+                        INCHES      0.155   0.310  0.003
+                        SQ MILES     1.00    1.00   1.50
+ROUTED TO      RIV      PEAK CFS        -       -   1.37
+                        TIME H:MM       -       -   3:00
+                        ACRE-FEET       -       -  0.213
+                        INCHES          -       -  0.003
+                        SQ MILES        -       -   1.50
+HYDROGRAPH AT  SIDE     PEAK CFS        -       -   2.00
+                        TIME H:MM       -       -   2:00
+                        ACRE-FEET       -       -  0.496
+2 COMBINED AT  OUT      PEAK CFS        -       -   3.37
+                        TIME H:MM       -       -   3:00
+                        ACRE-FEET       -       -  0.709
+                        INCHES          -       -  0.009
+                        SQ MILES        -       -   1.50
+E
+prints 'several ratios of one deck' --table two.hc1 <<'E'
+RUNOFF SUMMARY
+1  two.hc1, ratio 1.00: TWICE
+2  two.hc1, ratio 2.00: TWICE
+
+OPERATION      STATION                  1       2
+HYDROGRAPH AT  UP       PEAK CFS   100.00  200.00
+                        TIME H:MM    1:00    1:00
+                        ACRE-FEET   8.264  16.529
+                        INCHES      0.155   0.310
+                        SQ MILES     1.00    1.00
+E
+prints 'the same deck twice' --table texts.hc1 ./texts.hc1 <<'E'
+RUNOFF SUMMARY
+1  texts.hc1: TWO WORDS
+2  ./texts.hc1: TWO WORDS
+
+OPERATION      STATION                 1      2
+HYDROGRAPH AT  A        PEAK CFS    1.00   1.00
+                        TIME H:MM   1:00   1:00
+                        ACRE-FEET  0.083  0.083
+E
+prints 'one deck, refused' --table bad.hc1 <<<'REFUSED 7 5'
+prints 'two decks, refused' --table bad.hc1 bad.hc1 <<<$'RUNOFF SUMMARY\n-  bad.hc1: REFUSED 7 5\n-  bad.hc1: REFUSED 7 5'
+prints 'one of two refused' --table bad.hc1 texts.hc1 <<'E'
+RUNOFF SUMMARY
+-  bad.hc1: REFUSED 7 5
+1  texts.hc1: TWO WORDS
+
+OPERATION      STATION                 1
+HYDROGRAPH AT  A        PEAK CFS    1.00
+                        TIME H:MM   1:00
+                        ACRE-FEET  0.083
+E
+
+# Repeated stations: an inflow A twice, a confluence, a reach and a pond A.  With
+# one interval a reach lets out what comes in, and a pond nothing yet.  2 cfs are
+# 0.1653 acre-feet and 0.0031 inches, 3 cfs 0.2479 and 0.0046, 4 cfs 0.3306.
+put again.hc1 '*FREE\nIT 60,,,1\nKK A\nQI 1\nKK A\nBA 1\nQI 2\nKK A\nHC 2\nKK A\nRM 1,1,0\nKK A\nRS 1,STOR,0\nSV 0,100\nSQ 0,0\nZZ\n'
+put once.hc1 '*FREE\nIT 60,,,1\nKK A\nQI 4\nZZ\n'
+prints 'repeated stations' --table once.hc1 again.hc1 <<'E'
+RUNOFF SUMMARY
+1  once.hc1
+2  again.hc1
+
+OPERATION      STATION                 1      2
+HYDROGRAPH AT  A        PEAK CFS    4.00   1.00
+                        TIME H:MM   1:00   1:00
+                        ACRE-FEET  0.331  0.083
+HYDROGRAPH AT  A        PEAK CFS       -   2.00
+                        TIME H:MM      -   1:00
+                        ACRE-FEET      -  0.165
+                        INCHES         -  0.003
+                        SQ MILES       -   1.00
+2 COMBINED AT  A        PEAK CFS       -   3.00
+                        TIME H:MM      -   1:00
+                        ACRE-FEET      -  0.248
+                        INCHES         -  0.005
+                        SQ MILES       -   1.00
+ROUTED TO      A        PEAK CFS       -   3.00
+                        TIME H:MM      -   1:00
+                        ACRE-FEET      -  0.248
+                        INCHES         -  0.005
+                        SQ MILES       -   1.00
+ROUTED TO      A        PEAK CFS       -   0.00
+                        TIME H:MM      -      -
+                        ACRE-FEET      -  0.000
+                        INCHES         -  0.000
+                        SQ MILES       -   1.00
+E
+
+# Two decks that combine two at K, and three or two at J; only the second has an
+# area, at A.  1 cfs is 0.0015 inches over it, 2 are 0.0031 and 3 are 0.0046.
+put three.hc1 '*FREE\nIT 60,,,1\nKK A\nQI 1\nKK B\nQI 1\nKK K\nHC 2\nKK C\nQI 1\nKK D\nQI 1\nKK J\nHC 3\nZZ\n'
+put less.hc1 '*FREE\nIT 60,,,1\nKK A\nBA 1\nQI 1\nKK B\nQI 1\nKK K\nHC 2\nKK C\nQI 1\nKK J\nHC 2\nZZ\n'
+prints 'other numbers combined' --table three.hc1 less.hc1 <<'E'
+RUNOFF SUMMARY
+1  three.hc1
+2  less.hc1
+
+OPERATION      STATION                 1      2
+HYDROGRAPH AT  A        PEAK CFS    1.00   1.00
+                        TIME H:MM   1:00   1:00
+                        ACRE-FEET  0.083  0.083
+                        INCHES         -  0.002
+                        SQ MILES       -   1.00
+HYDROGRAPH AT  B        PEAK CFS    1.00   1.00
+                        TIME H:MM   1:00   1:00
+                        ACRE-FEET  0.083  0.083
+2 COMBINED AT  K        PEAK CFS    2.00   2.00
+                        TIME H:MM   1:00   1:00
+                        ACRE-FEET  0.165  0.165
+                        INCHES         -  0.003
+                        SQ MILES       -   1.00
+HYDROGRAPH AT  C        PEAK CFS    1.00   1.00
+                        TIME H:MM   1:00   1:00
+                        ACRE-FEET  0.083  0.083
+HYDROGRAPH AT  D        PEAK CFS    1.00      -
+                        TIME H:MM   1:00      -
+                        ACRE-FEET  0.083      -
+COMBINED AT    J        PEAK CFS    4.00   3.00
+                        TIME H:MM   1:00   1:00
+                        ACRE-FEET  0.331  0.248
+                        INCHES         -  0.005
+                        SQ MILES       -   1.00
+E
+
+# Ten columns, so that the numbers have two digits.
+put nine.hc1 'ID NINE\n*FREE\nIT 60,,,1\nJR PREC,.01,1,1,1,1,1,1,1,9.99\nKK A\nQI 1\nZZ\n'
+prints 'ten columns' --table nine.hc1 bad.hc1 once.hc1 <<'E'
+RUNOFF SUMMARY
+ 1  nine.hc1, ratio 0.01: NINE
+ 2  nine.hc1, ratio 1.00: NINE
+ 3  nine.hc1, ratio 1.00: NINE
+ 4  nine.hc1, ratio 1.00: NINE
+ 5  nine.hc1, ratio 1.00: NINE
+ 6  nine.hc1, ratio 1.00: NINE
+ 7  nine.hc1, ratio 1.00: NINE
+ 8  nine.hc1, ratio 1.00: NINE
+ 9  nine.hc1, ratio 9.99: NINE
+ -  bad.hc1: REFUSED 7 5
+10  once.hc1
+
+OPERATION      STATION                 1      2      3      4      5      6      7      8      9     10
+HYDROGRAPH AT  A        PEAK CFS    1.00   1.00   1.00   1.00   1.00   1.00   1.00   1.00   1.00   4.00
+                        TIME H:MM   1:00   1:00   1:00   1:00   1:00   1:00   1:00   1:00   1:00   1:00
+                        ACRE-FEET  0.083  0.083  0.083  0.083  0.083  0.083  0.083  0.083  0.083  0.331
+E
+
+# Paths as they are shown.
+odd=$'a\tb\x01\x7f%s \xc3\xa9.hc1'
+put "$odd" '*FREE\nIT 60,,,1\nKK %d"\\\nQI 1\nZZ\n'
+prints 'an odd path' --table "$odd" <<E
+RUNOFF SUMMARY: a?b??%s $(printf '\xc3\xa9').hc1
+
+$head
+HYDROGRAPH AT  %d"\\         1.00       1:00      0.083       -         -
+E
+put --table "$pond"
+prints 'standard input without a deck' --table - <<<'REFUSED 16 0'
+check 'a path like an option' "$(sed 's/pond.hc1/--table/' <<<"$(cd "$scratch/decks" && run --table pond.hc1)")" \
+    "$(cd "$scratch/decks" && run --table --table)"
+check 'standard input twice' $'RUNOFF SUMMARY\n1  -: POND\n-  -: REFUSED 16 0' \
+    "$(printf '%b' "$pond" | run --table - - | head -n 3)"
+
+# What cannot be read, and calls that are wrong: nothing is printed.
+for words in '--table' '--network' '--table none.hc1' '--table pond.hc1 none.hc1' '--table none.hc1 pond.hc1' '--table .' '--network none.hc1' \
+    '--network .' '--network pond.hc1 pond.hc1' '--bundle --table pond.hc1' '--full --network pond.hc1'; do
+    # shellcheck disable=SC2086
+    check "$words" 'status 2, said' "$(cd "$scratch/decks" && run $words </dev/null)"
+done
+
+# A deck of 60,000 bytes and one that is a byte longer.
+{ printf '%b' "$pond"; head -c $((60000 - $(printf '%b' "$pond" | wc -c))) /dev/zero; } >"$scratch/decks/full.hc1"
+{ cat "$scratch/decks/full.hc1"; printf '\0'; } >"$scratch/decks/over.hc1"
+check 'the table of a full deck' "$(sed 's/pond.hc1/full.hc1/' <<<"$(cd "$scratch/decks" && run --table pond.hc1)")" \
+    "$(cd "$scratch/decks" && run --table full.hc1)"
+prints 'the table of a longer one' --table over.hc1 <<<'REFUSED 2 0'
+prints 'the network of a longer one' --network over.hc1 <<<'REFUSED 2 0'
+
+# Networks.  The stems stand in columns 13, 23 and so on.
+prints 'a network' --network pond.hc1 <<'E'
+STREAM NETWORK: pond.hc1
+
+  LINE  (V) ROUTED  (.) HELD OR JOINED
+
+     4      UP
+            V
+            V
+     9     RIV
+            .
+            .
+    11      .        SIDE
+            .         .
+            .         .
+    13     OUT.........
+E
+check 'a network of standard input' "$(sed 's/pond.hc1/-/' <<<"$(cd "$scratch/decks" && run --network pond.hc1)")" \
+    "$(printf '%b' "$pond" | run --network -)"
+prints 'the network of a refused deck' --network bad.hc1 <<<'REFUSED 7 5'
+
+# Names of each length: those of 3 and 4 begin a column before their stem, those
+# of 5 and 6 two.  HC 5 from column 17 to the stem in column 53.
+put names.hc1 '*FREE\nIT 60,,,1\nKK A\nQI 1\nKK BB\nQI 1\nKK CCC\nQI 1\nKK DDDD\nQI 1\nKK EEEEE\nQI 1\nKK FFFFFF\nHC 5\nZZ\n'
+prints 'names of each length' --network names.hc1 <<'E'
+STREAM NETWORK: names.hc1
+
+  LINE  (V) ROUTED  (.) HELD OR JOINED
+
+     3      A
+            .
+            .
+     5      .         BB
+            .         .
+            .         .
+     7      .         .        CCC
+            .         .         .
+            .         .         .
+     9      .         .         .        DDDD
+            .         .         .         .
+            .         .         .         .
+    11      .         .         .         .       EEEEE
+            .         .         .         .         .
+            .         .         .         .         .
+    13    FFFFFF.....................................
+E
+
+# A reach and a pond beside what is held; blank lines and notes count as lines; a
+# JR changes nothing.
+put beside.hc1 'KM NOTE\n\n*FREE\nIT 60,,,1\nJR PREC,1,2\n\nKK WIDE01\nQI 1\nKK B\nQI 1\nKM MORE\nKK REACH\nRM 1,1\nKK POND\nRS 1,STOR\nSV 0,100\nSQ 0,0\nKK CC\nQI 1\nKK TWO\nHC 2\nKK LAST\nHC 2\nKK R\nRM 1,1\nZZ\n'
+prints 'routed beside others' --network beside.hc1 <<'E'
+STREAM NETWORK: beside.hc1
+
+  LINE  (V) ROUTED  (.) HELD OR JOINED
+
+     7    WIDE01
+            .
+            .
+     9      .         B
+            .         V
+            .         V
+    12      .       REACH
+            .         V
+            .         V
+    14      .        POND
+            .         .
+            .         .
+    18      .         .         CC
+            .         .         .
+            .         .         .
+    20      .        TWO.........
+            .         .
+            .         .
+    22     LAST........
+            V
+            V
+    24      R
+E
+
+# Twenty held, then five, five, five, five and four of them.  Line 3 and every
+# second one has a KK.  The stems of places 0 to n - 1 take 13 + 10 (n - 1)
+# columns; a name of 3 begins 8 blanks behind the stem before, one of 2 begins 9.
+# HC 5 goes from behind its two letters to the stem 40 columns on: 39 dots.  HC 4
+# to the one 30 columns on.
+stems() { if [ "$1" -gt 0 ]; then printf '      .'; times $(($1 - 1)) '         .'; fi; }
+deep='*FREE\nIT 60,,,1\n'
+expected=$'STREAM NETWORK: deep.hc1\n\n  LINE  (V) ROUTED  (.) HELD OR JOINED\n\n'
+for ((k = 0; k < 20; k++)); do
+    deep+="KK H$((k + 10))\nQI 1\n"
+    [ $k -eq 0 ] || expected+="      $(stems $k)"$'\n'"      $(stems $k)"$'\n'
+    printf -v number '%6d' $((3 + 2 * k))
+    if [ $k -eq 0 ]; then expected+="$number     H10"$'\n'
+    else expected+="$number$(stems $k)        H$((k + 10))"$'\n'; fi
+done
+line=43
+for place in 15 11 7 3; do
+    deep+="KK J$((place % 10))\nHC 5\n"
+    expected+="      $(stems $((place + 5)))"$'\n'"      $(stems $((place + 5)))"$'\n'
+    expected+="    $line$(stems $place)         J$((place % 10))$(times 39 .)"$'\n'
+    line=$((line + 2))
+done
+deep+='KK J0\nHC 4\nZZ\n'
+expected+="      $(stems 4)"$'\n'"      $(stems 4)"$'\n'"    51      J0$(times 29 .)"
+put deep.hc1 "$deep"
+prints 'twenty held' --network deep.hc1 <<<"$expected"
+
 # ---- The counters ----------------------------------------------------------
 
 # The counter of losses, on blocks whose way and whose wrong rules are known:
@@ -3010,6 +3443,44 @@ cmp -s "$scratch/fewer" <(head -c $(($(wc -c <"$scratch/fewer"))) "$scratch/case
 check 'reasons: the same seed begins alike' 0 $?
 "$decks" reasons 3 200 | cmp -s - "$scratch/fewer"
 check 'reasons: another seed does not' 1 $?
+
+# The counter of tables.  A deck that is refused, or one edge alone, is not enough.
+"$tables" "$scratch/decks/pond.hc1" >"$scratch/said"
+check 'tables: a count of 0 fails' 1 $?
+check 'tables counted' '1 deck without a JR,4 name of length in all,1 confluence of 2,' \
+    "$(awk '$1 == 1 && /without a JR|confluence of 2/ { a[++n] = $0 } /name of length/ { s += $1 }
+        END { sub(/^ */, "", a[1]); sub(/^ */, "", a[2]); gsub(/  /, " ", a[1]); gsub(/  /, " ", a[2])
+            printf "%s,%d name of length in all,%s,", a[1], s, a[2] }' "$scratch/said")"
+check 'tables: nothing differs' 0 "$(grep -c 'not those of the right rule' "$scratch/said")"
+"$tables" "$scratch/decks/pond.hc1" "$scratch/decks/bad.hc1" >"$scratch/said"
+check 'tables: a refused deck is told' "$scratch/decks/bad.hc1 is refused" "$(head -n 1 "$scratch/said")"
+check 'tables: what cannot be read' 2 "$("$tables" "$scratch/decks/none.hc1" >"$scratch/said" 2>&1; echo $?)"
+# the deck writer's own files, with memory watched
+mkdir "$scratch/written" "$scratch/fewer.d" "$scratch/other.d"
+"$decks" tables 2 200 "$scratch/written"
+"$tables" "$scratch/written"/*.hc1 >"$scratch/said"
+check 'tables: nothing is missing' 0 $?
+"$prog" --table "$scratch/written"/*.hc1 >"$scratch/said"
+check 'tables: the status on written decks' 0 $?
+check 'tables: all written decks are accepted' 0 "$(grep -ac '^ *-  .*: REFUSED [0-9]* [0-9]*$' "$scratch/said")"
+check 'tables: no line ends with blanks' 0 "$(grep -ac ' $' "$scratch/said")"
+# a row for each block, and two of stems before each but the first
+got=
+for number in 0001 0026 0051 0100 0200; do
+    "$prog" --network "$scratch/written/$number.hc1" >"$scratch/said" || got+="$number "
+    blocks=$("$prog" <"$scratch/written/$number.hc1" | sed -n '$s/^END //p')
+    [ "$(wc -l <"$scratch/said")" -eq $((3 * blocks + 2)) ] || got+="$number "
+done
+check 'tables: the rows of networks' '' "$got"
+"$decks" tables 2 20 "$scratch/fewer.d"
+"$decks" tables 3 20 "$scratch/other.d"
+got=$(for number in 0001 0020; do
+    cmp -s "$scratch/fewer.d/$number.hc1" "$scratch/written/$number.hc1"; echo $?
+    cmp -s "$scratch/fewer.d/$number.hc1" "$scratch/other.d/$number.hc1"; echo $?
+done)
+check 'tables: the same seed writes the same' "$(printf '0\n1\n0\n1')" "$got"
+check 'tables: so many files' 20 "$(find "$scratch/fewer.d" -name '*.hc1' | wc -l)"
+check 'tables: no such folder' 1 "$("$decks" tables 2 1 "$scratch/nowhere" >"$scratch/said" 2>&1; echo $?)"
 
 # ---- Fuzz ----------------------------------------------------------------
 
