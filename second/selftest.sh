@@ -2994,6 +2994,11 @@ RUNOFF SUMMARY: a?b??%s $(printf '\xc3\xa9').hc1
 $head
 HYDROGRAPH AT  %d"\\         1.00       1:00      0.083       -         -
 E
+# Blanks at the end of a path go with the end of the line, if they stand there.
+put 'blank  ' '*FREE\nIT 60,,,1\nKK A\nQI 1\nZZ\n'
+check 'blanks behind a path' "$(printf 'RUNOFF SUMMARY: blank\nSTREAM NETWORK: blank\n1  blank\n1  two.hc1, ratio 1.00: TWICE\n3  blank')" \
+    "$(cd "$scratch/decks" && { run --table 'blank  ' | head -n 1; run --network 'blank  ' | head -n 1
+        run --table 'blank  ' once.hc1 | sed -n 2p; run --table two.hc1 'blank  ' | sed -n '2p;4p'; })"
 put --table "$pond"
 prints 'standard input without a deck' --table - <<<'REFUSED 16 0'
 check 'a path like an option' "$(sed 's/pond.hc1/--table/' <<<"$(cd "$scratch/decks" && run --table pond.hc1)")" \

@@ -376,7 +376,7 @@ static bool accepted(const struct table_deck *deck)
 
 static size_t chain_of(const struct across *across, const struct figures *row)
 {
-    size_t number = row->operation + 3 * (size_t)row->repeat;
+    size_t number = row->operation;
 
     for (unsigned k = 0; k < row->name_length; k++)
         number = number * 131 + row->name[k];
