@@ -41,9 +41,13 @@ name_curves() {
 # block its dashes; else a block has its colour. The colours are told apart by those too who see few.
 plot_script() {
     NAME=$name TITLE=$(title) FORMAT=$format LC_ALL=C awk '
-        function quoted(text) {
-            gsub(/\047/, "\047\047", text)
-            return "\047" text "\047"
+        # a text in quotes; what is no letter, digit or blank is written by its number, since gnuplot runs what stands in backquotes
+        function quoted(text,    k, byte, said) {
+            for (k = 1; k <= length(text); k++) {
+                byte = substr(text, k, 1)
+                said = said (byte in number ? sprintf("\\%03o", number[byte]) : byte)
+            }
+            return "\"" said "\""
         }
         # which one a thing is among those of its sort that were met, from 0
         function place(sort, thing) {
@@ -51,9 +55,11 @@ plot_script() {
             return met[sort, thing]
         }
         BEGIN {
+            for (k = 33; k < 127; k++) if (sprintf("%c", k) !~ /[A-Za-z0-9]/) number[sprintf("%c", k)] = k
             colours = split("#0072b2 #d55e00 #009e73 #cc79a7 #e69f00 #56b4e9 #000000", colour, " ")
             dashes = split("solid,\047-\047,\047.\047,\047-.\047,\047-..\047", dash, ",")
             print ENVIRON["FORMAT"] == "svg" ? "set terminal svg size 960,540 noenhanced font \047Helvetica,14\047 background \047white\047" : "set terminal pngcairo size 1280,720 noenhanced font \047Helvetica,14\047"
+            print "set encoding utf8"
             print "set title " quoted(ENVIRON["TITLE"] == "" ? ENVIRON["NAME"] : ENVIRON["TITLE"])
             print "set xlabel \047hours from the start\047"
             print "set ylabel \047flow in cfs\047"

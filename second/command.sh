@@ -9,66 +9,8 @@
 set -u
 root=$(CDPATH="" cd -- "$(dirname -- "$0")/.." && pwd -P) || exit 2
 . "$root/second/kit.sh" || exit 2
-scratch=$(mktemp -d) || exit 2
-trap 'rm -rf "$scratch"' EXIT
-trap 'exit 1' HUP INT TERM
-passed=0
-failed=0
-
-sh "$root/second/build.sh" || exit 2
-second=$root/target/second/hec1
-hec1=$root/hec1
-proved=yes
-if [ "${1:-}" = --program ]; then
-    proved=
-    hec1=$scratch/hec1
-    printf '#!/bin/sh\nexec "%s" --program "%s" "$@"\n' "$root/hec1" "$(readlink -f "${2:?--program wants a program}")" >"$hec1"
-    chmod +x "$hec1"
-else
-    # built here, so that no test below sees the words of a first use
-    printf '*FREE\nIT 60,,,1\nKK A\nBA 1\nPI\nLU\nUI\nZZ\n' >"$scratch/in"
-    for words in --quiet --bundle --records '--sheet A' '--hydrograph A'; do
-        # shellcheck disable=SC2086
-        "$hec1" $words "$scratch/in" >/dev/null || { echo "command.sh: there is no proved program" >&2; exit 2; }
-    done
-    printf 'IT\n' | "$hec1" --quiet 2>&1 >/dev/null | grep -q 'field 1' || { echo "command.sh: there is no proved program reason" >&2; exit 2; }
-fi
-
-# same NAME EXPECTED GOT: two files must be equal
-same() {
-    if cmp -s "$2" "$3"; then
-        passed=$((passed + 1))
-    else
-        failed=$((failed + 1))
-        printf 'FAILED: %s\n' "$1"
-        diff "$2" "$3" | head -n 20
-    fi
-}
-
-# holds NAME COMMAND...: a command must succeed
-holds() {
-    what=$1
-    shift
-    if "$@"; then
-        passed=$((passed + 1))
-    else
-        failed=$((failed + 1))
-        printf 'FAILED: %s\n' "$what"
-    fi
-}
-
-# try NAME STATUS OUT ERR WORD...: runs the words on the file 'in' and compares all three; OUT and ERR are for printf's %b
-try() {
-    name=$1
-    { printf 'status %s\n-- out\n%b-- err\n%b' "$2" "$3" "$4"; } >"$scratch/expected"
-    shift 4
-    "$@" <"$scratch/in" >"$scratch/out" 2>"$scratch/err"
-    ended=$?
-    { printf 'status %s\n-- out\n' "$ended"; cat "$scratch/out"; echo '-- err'; cat "$scratch/err"; } >"$scratch/got"
-    same "$name" "$scratch/expected" "$scratch/got"
-}
-
-input() { printf '%b' "$1" >"$scratch/in"; }
+. "$root/second/trying.sh" || exit 2
+take_command "$@"
 
 # case_of BLOCK RATIO FILE: a deck as the programs sheet and hydrograph read it
 case_of() {
@@ -143,7 +85,9 @@ try 'the command by a link' 1 "$bad_list" "pond.hc1$bad_words" ./linked pond.hc1
 # ---- options
 
 usage='usage: hec1 [--quiet] [FILE...]\n       hec1 --bundle [FILE...]\n       hec1 --records|--to-new|--to-old [FILE]
-       hec1 --sheet|--hydrograph BLOCK [--ratio R] [FILE]\n       hec1 --hydrographs DIR [FILE]\n       hec1 --install DIR\n       hec1 --version|--help\n'
+       hec1 --sheet|--hydrograph BLOCK [--ratio R] [FILE]\n       hec1 --hydrographs DIR [FILE]\n       hec1 [--quiet] --table [FILE...]
+       hec1 --plot [--to PICTURE] [--ratio R] [FILE [BLOCK...]]\n       hec1 --network [--to PICTURE] [FILE]
+       hec1 --install DIR\n       hec1 --version|--help\n'
 
 # unknown WORD, misplaced WORD: what is said of an option that there is not, and of one that stands where a file could
 unknown() { printf '%s' "hec1: unknown option $1\n$usage"; }
@@ -161,7 +105,8 @@ for option in --foo -x -x.hc1 -qx --quiet=yes --help.hc1 --rat --ratios --hydro 
 done
 try 'no option of two lines' 2 '' "$(unknown '-x?y')" "$hec1" '-x
 y'
-for words in --bundle --records --to-new --to-old '--sheet A' '--sheet A --ratio 1' '--hydrograph A' '--hydrograph 1 --ratio 1' '--hydrographs apart' '--install apart'; do
+for words in --bundle --records --to-new --to-old '--sheet A' '--sheet A --ratio 1' '--hydrograph A' '--hydrograph 1 --ratio 1' '--hydrographs apart' --table \
+    --plot '--plot --to apart.svg --ratio 1' --network '--network --to apart.svg' '--install apart'; do
     # shellcheck disable=SC2086
     try "no option behind $words" 2 '' "$(unknown --foo)" "$hec1" $words --foo good.hc1
     # shellcheck disable=SC2086
@@ -169,7 +114,8 @@ for words in --bundle --records --to-new --to-old '--sheet A' '--sheet A --ratio
     # shellcheck disable=SC2086
     try "an option behind $words" 2 '' "$(misplaced --quiet)" "$hec1" $words --quiet good.hc1
 done
-for option in -q --quiet -h --help --version --bundle --records --to-new --to-old --sheet --hydrograph --hydrographs --ratio --install --program; do
+for option in -q --quiet -h --help --version --bundle --records --to-new --to-old --sheet --hydrograph --hydrographs --ratio --table --plot --network --to --install \
+    --program; do
     printf '%b' "$good" >"./$option"
     try "$option behind a file" 2 '' "$(misplaced "$option")" "$hec1" good.hc1 "$option"
     try "$option behind a file, and a file" 2 '' "$(misplaced "$option")" "$hec1" good.hc1 "$option" good.hc1
@@ -1405,6 +1351,7 @@ installed() {
     for words in good.hc1 pond.hc1 short.hc1 'good.hc1 pond.hc1' '-q short.hc1' - '--bundle good.hc1 pond.hc1' '--records good.hc1' \
         '--records pond.hc1' '--to-old new' '--to-new old' '--to-new new' '--sheet UP basin.hc1' '--sheet UP pond.hc1' '--sheet RIV basin.hc1' \
         '--hydrograph OUT basin.hc1' '--hydrograph UP three.hc1' '--hydrograph A pond.hc1' '--hydrographs apart three.hc1' '--hydrographs apart pond.hc1' \
+        '--table basin.hc1' '--table three.hc1 pond.hc1 basin.hc1' '--table pond.hc1' '--network basin.hc1' '--network pond.hc1' '--plot none.hc1 --foo' \
         --version --help --foo 'good.hc1 -q' none.hc1 --sheet; do
         # shellcheck disable=SC2086
         "$hec1" $words <good.hc1 >"$scratch/out" 2>"$scratch/err"
@@ -1455,8 +1402,9 @@ fi
 kit=$scratch/kit
 libraries=$kit/on/$(uname -m)/toolchain/lib
 repository="$scratch/a repository"
-mkdir -p "$kit/bin" "$libraries" "$repository/crates/hec1/src" "$repository/second"
+mkdir -p "$kit/bin" "$libraries" "$repository/crates/hec1/src" "$repository/second" "$repository/command"
 cp "$root/hec1" "$repository/"
+cp "$root/command/"*.sh "$repository/command/"
 cp "$root/second/kit.sh" "$repository/second/"
 printf '%s\n' '# NAME: what it stands on' 'base:' 'middle: base io libc' 'other: base' 'hec1: middle' 'bundle: middle other bytes' 'store: base' \
     'sheet: other' 'hydrograph: other' 'reason: other' >"$repository/crates.txt"
@@ -1682,7 +1630,8 @@ holds 'installed by the stand-in: nothing on standard output' test ! -s "$scratc
 holds 'installed by the stand-in: words' test "$(tail -n 1 "$scratch/err")" = "hec1: $(CDPATH="" cd -- "$scratch/here" && pwd -P)/bin/hec1 is installed"
 same 'installed by the stand-in: the command in the repository stays' "$scratch/before" "$hec1"
 (cd "$scratch/here" && find . -type f | LC_ALL=C sort) >"$scratch/got"
-printf './%s\n' bin/hec1 lib/evzorkhum/kit lib/evzorkhum/kit.sh lib/evzorkhum/programs/bundle lib/evzorkhum/programs/hec1 lib/evzorkhum/programs/hydrograph \
+printf './%s\n' bin/hec1 lib/evzorkhum/command/deck.sh lib/evzorkhum/command/network.sh lib/evzorkhum/command/picture.sh lib/evzorkhum/command/plot.sh \
+    lib/evzorkhum/command/table.sh lib/evzorkhum/kit lib/evzorkhum/kit.sh lib/evzorkhum/programs/bundle lib/evzorkhum/programs/hec1 lib/evzorkhum/programs/hydrograph \
     lib/evzorkhum/programs/reason lib/evzorkhum/programs/sheet lib/evzorkhum/programs/store lib/evzorkhum/tools/lib/ld-linux-x86-64.so.2 lib/evzorkhum/tools/lib/libc.so.6 lib/other >"$scratch/expected"
 same 'installed by the stand-in: its files' "$scratch/expected" "$scratch/got"
 try 'installed once more' 0 '' "hec1: $(CDPATH="" cd -- "$scratch/here" && pwd -P)/bin/hec1 is installed\n" "$hec1" --install "$scratch/here"
@@ -1705,6 +1654,9 @@ holds 'a command without its own files: status' test $? = 2
 echo "hec1: $repository/second/kit.sh is missing" >"$scratch/expected"
 same 'a command without its own files' "$scratch/expected" "$scratch/out"
 mv "$scratch/second" "$repository/second"
+mv "$repository/command/table.sh" "$scratch/table.sh"
+try 'a command without one of its parts' 2 '' "hec1: $repository/command/table.sh is missing\n" "$hec1" --table good.hc1
+mv "$scratch/table.sh" "$repository/command/table.sh"
 
 env -u RATTLE_HOME PATH="$scratch/nothing" "$hec1" good.hc1 >"$scratch/out" 2>"$scratch/err"
 holds 'without the kit: status' test $? = 2
