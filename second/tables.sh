@@ -38,7 +38,7 @@ done <"$scratch/examples"
 both --table $(cat "$scratch/examples")
 
 mkdir "$scratch/decks" && cd "$scratch/decks" || exit 2
-"$root/target/second/decks" --tables "$seed" "$count" "$scratch/decks" || exit 2
+"$root/target/second/decks" tables "$seed" "$count" "$scratch/decks" || exit 2
 holds "there are $count decks" test "$(find . -name '*.hc1' | wc -l)" -eq "$count"
 set --
 for deck in *.hc1; do
