@@ -41,7 +41,8 @@ name_curves() {
 # block its dashes; else a block has its colour. The colours are told apart by those too who see few.
 plot_script() {
     NAME=$name TITLE=$(title) FORMAT=$format LC_ALL=C awk '
-        # a text in quotes; what is no letter, digit or blank is written by its number, since gnuplot runs what stands in backquotes
+        # a text in quotes; what is no letter or blank is written by its number, since gnuplot runs what stands in backquotes, and takes a digit
+        # behind a number for one of it
         function quoted(text,    k, byte, said) {
             for (k = 1; k <= length(text); k++) {
                 byte = substr(text, k, 1)
@@ -55,7 +56,7 @@ plot_script() {
             return met[sort, thing]
         }
         BEGIN {
-            for (k = 33; k < 127; k++) if (sprintf("%c", k) !~ /[A-Za-z0-9]/) number[sprintf("%c", k)] = k
+            for (k = 33; k < 127; k++) if (sprintf("%c", k) !~ /[A-Za-z]/) number[sprintf("%c", k)] = k
             colours = split("#0072b2 #d55e00 #009e73 #cc79a7 #e69f00 #56b4e9 #000000", colour, " ")
             dashes = split("solid,\047-\047,\047.\047,\047-.\047,\047-..\047", dash, ",")
             print ENVIRON["FORMAT"] == "svg" ? "set terminal svg size 960,540 noenhanced font \047Helvetica,14\047 background \047white\047" : "set terminal pngcairo size 1280,720 noenhanced font \047Helvetica,14\047"

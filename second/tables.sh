@@ -227,12 +227,13 @@ input "$basin"
 plot 'standard input'
 holds 'a plot of standard input' drawn 'hec1: deck.svg is written' deck.svg gnuplot
 # without a title the deck has its name; names that gnuplot could take for something else
-printf '%s\n' '*FREE' 'IT 60,,,4' 'KK a"\n%x' 'QI 1,2,1' "KK '<&>'" 'QI 3' 'KK a"\n%x' 'HC 2' 'KK `date`' 'RM 1,1,0' 'ZZ' >"it's.hc1"
+printf '%s\n' '*FREE' 'IT 60,,,4' 'KK a"\n%x' 'QI 1,2,1' "KK '<&>'" 'QI 3' 'KK a"\n%x' 'HC 2' 'KK `date`' 'RM 1,1,0' 'KK x.1289' 'RM 1,1,0' 'ZZ' >"it's.hc1"
 plot 'odd names' "it's.hc1"
 grep '^plot \|^set title ' "$scratch/kept" >"$scratch/said"
 holds 'odd names: nothing that gnuplot runs or takes for something else' sh -c '! grep -q "[@%<&\`]" "$1"' sh "$scratch/said"
-holds 'odd names: the title' grep -qxF 'set title "it\047s\056hc1"' "$scratch/kept"
-{ curve 'a"\n%x (block 1)' 1 1 "it's.hc1"; curve "'<&>'" 2 1 "it's.hc1"; curve 'a"\n%x (block 3)' 3 1 "it's.hc1"; curve '`date`' 4 1 "it's.hc1"; } >"$scratch/expected"
+holds 'odd names: the title' grep -qxF 'set title "it\047s\056hc\061"' "$scratch/kept"
+{ curve 'a"\n%x (block 1)' 1 1 "it's.hc1"; curve "'<&>'" 2 1 "it's.hc1"; curve 'a"\n%x (block 3)' 3 1 "it's.hc1"; curve '`date`' 4 1 "it's.hc1"
+  curve x.1289 5 1 "it's.hc1"; } >"$scratch/expected"
 curves >"$scratch/got"
 same 'odd names' "$scratch/expected" "$scratch/got"
 # up to twelve curves without a name, else the last block
@@ -321,6 +322,7 @@ for tool in gnuplot dot; do
     # a > may stand as it is
     holds "$tool: a name in it" grep -q '&lt;&amp;[&>]' x.svg
     holds "$tool: a name that a shell would run" grep -q '`date`' x.svg
+    holds "$tool: digits behind a point" grep -q 'x[.]1289' x.svg
 done
 
 echo "$passed passed, $failed failed"
