@@ -1,4 +1,4 @@
--- What a proof by computation unfolds: `unfolding computing` is every definition on the way from a deck's bytes to its outcome, its listing and its sheets.
+-- What a proof by computation unfolds: `unfolding computing` is every definition on the way from a deck's bytes to its outcome and all that is printed of it, from a line to its reason, and from a result file to the moved one.
 use Rattle.meaning.specs.Words.{if_then_else_, same}
 use Rattle.meaning.specs.Lines.{linesOf, allPlain, foreign, allBlank}
 use Rattle.meaning.specs.Fields.{trimEnd, skipBlanks, strip, fixedField, fixedFields, markOf, freeFrom, freeFields, fieldsOf, word}

@@ -18,13 +18,13 @@ basin before lines = bytes "*FREE\nIT 60,,,4\n" ++ before ++ bytes "KK A\nBA 1\n
 abbrev rated : List ℕ → List ℕ
 rated before = basin before (bytes "PI 0.0001,0.0001,0.0001\n")
 
--- Two basins and their confluence. Under 1.00 the first flow over the limit is that of the confluence, at ZZ on line 16; under 3.00 it is the second basin's, on line 14.
+-- Two basins and their confluence. Under 1.00 the first flow over the limit is that of the confluence, at ZZ on line 16; under 3.00 it is the second basin's, whose flow under 1.00 is 90,000 cfs, on line 14.
 abbrev flood : List ℕ → List ℕ
 flood ratios =
     bytes "*FREE\nIT 60,,,1\nJR PREC," ++ ratios
     ++ bytes "\nKK A\nBA 1\nPI 1\nLU\nUI 20000\nKK B\nBA 1\nPI 1\nLU\nUI 90000\nKK C\nHC 2\nZZ\n"
 
--- The flow of B alone is 90,000 cfs; what was lent, for three ratios of a block.
+-- What was lent: room for four ordinates, and so many bytes of records.
 abbrev lent : ℕ → Lent
 lent records = record { work = 6_000; ordinates = 4; records = records }
 

@@ -29,7 +29,7 @@ table =
     row (reason false Free (bytes "JR PREC,1,,2")) (bytes "FIELD 3 LIMITS 2 1 999 \n") ∷
     row (reason false Free (bytes "JR PREC")) (bytes "FIELD 2 LIMITS 2 1 999 \n") ∷
     row (reason false Free (bytes "JR PREC,9.99,10,,")) (bytes "FIELD 3 LIMITS 2 1 999 10\n") ∷
-    -- in columns: a value across a border, and a blank inside one
+    -- in columns: a second value, and a blank inside one
     row (reason true Fixed (bytes "HC     3  5")) (bytes "FIELD 2 BLANK 5\n") ∷
     row (reason true Fixed (bytes "BA  1 5")) (bytes "FIELD 1 NUMBER 2 1 999999 1 5\n") ∷
     row (reason false Fixed (bytes "RM     0")) (bytes "FIELD 1 LIMITS 0 1 50 0\n") ∷

@@ -1,4 +1,4 @@
--- Document 02, CR 7, in figures: numbers with trailing zeros by themselves and on every record, decks that differ in such zeros alone, and what is refused as before.
+-- Document 02, CR 7, in figures: numbers with trailing zeros by themselves and on every record, decks that differ in such zeros alone, and what is refused still.
 -- Tables, by computation.
 use Prim.Native.Nat.{ℕ}
 use Prim.Native.String.{String}
@@ -198,7 +198,7 @@ pub same-listing : listing zeroed ≡ listing pond
 unfolding listing if_then_else_
 same-listing = ap listingBy same-worked
 
--- WHAT IS REFUSED AS BEFORE. Decks with these fields on IT, on line 2; with these ratios on line 3; with these values for rain, or for an inflow.
+-- WHAT IS REFUSED STILL, and what is just within its limits. Decks with these fields on IT, on line 2; with these ratios on line 3; with these values for rain, or for an inflow.
 abbrev timed : String → List ℕ
 timed fields = bytes "*FREE\nIT " ++ bytes fields ++ bytes "\nKK A\nQI 7\nZZ\n"
 
