@@ -15,13 +15,8 @@ ghost use Rattle.graphing.specs.Sizes.{mostMinutes, lineSize, hydrograph
 ghost use Rattle.graphing.specs.Texts.{minutesAt};
 use answers::Answer;
 use cells::Measure;
-use results::RECORD;
-
-// The most ordinates that a deck has.
-const ORDINATES: usize = 300;
-
-// The bytes of its records at most: of 200 blocks under nine ratios.
-const RECORDS: usize = RECORD * (200 * 9);
+use listing::ORDINATES;
+use listing::RECORDS;
 
 // The bytes that any hydrograph has room in: a head, and for each ordinate a line of four figures.
 pub const HYDROGRAPH: usize = 27 + (4 * cells::CELL) * ORDINATES;

@@ -23,13 +23,8 @@ use answers::Answer;
 use blocks::Name;
 use blocks::Time;
 use cells::Measure;
-use results::RECORD;
-
-// The most ordinates that a deck has.
-const ORDINATES: usize = 300;
-
-// The bytes of its records at most: of 200 blocks under nine ratios.
-const RECORDS: usize = RECORD * (200 * 9);
+use listing::ORDINATES;
+use listing::RECORDS;
 
 // The bytes that any sheet has room in: two tables with their titles.
 pub const SHEET: usize = 2 * (sheets::TITLE + sheets::TABLE);

@@ -6,15 +6,11 @@ ghost use lib.ListN.{length};
 ghost use Rattle.moving.specs.Answers.{outcomeIs};
 ghost use Rattle.store.specs.Kept.{movedAs};
 use answers::Answer;
+use listing::ORDINATES;
+use listing::RECORDS;
 use moving::Move;
 use results::RECORD;
 use streams::Next;
-
-// The most ordinates that a deck has.
-const ORDINATES: usize = 300;
-
-// The bytes of its records at most: of 200 blocks under nine ratios.
-const RECORDS: usize = RECORD * (200 * 9);
 
 // The most bytes that a result file may have, and those that it may take in the other form.
 const FILE: usize = 1_600_000;
