@@ -2,8 +2,8 @@
 # command.sh [--program PROGRAM]
 # Tests the command ./hec1: listings, words of refusals, also beside the listings of 2,000 decks of the deck writer, warnings, exit status,
 # options and odd names, standard input, several files, bundles, result files, sheets, hydrographs, input and output that fail, how it builds
-# the program and how it is installed; every transcript of docs/USERS.md; every deck of examples/ against the listing and the sheet beside
-# it, and its hydrographs against those of the second program. The last line is 'N passed, M failed', and the exit status agrees.
+# the program and how it is installed; every transcript and every link of docs/USERS.md and docs/users/; every deck of examples/ against the
+# listing and the sheet beside it, and its hydrographs against those of the second program. The last line is 'N passed, M failed', and the exit status agrees.
 #
 # --program, to try this script itself: a program that ./hec1 is to start in place of the proved one.
 set -u
@@ -349,7 +349,7 @@ set +f
     awk '$1 == $2 { print $1 }' | LC_ALL=C sort >"$scratch/got"
 same "every record of HEC-1's manual" "$scratch/expected" "$scratch/got"
 rm -r records
-grep '^| ' "$root/docs/USERS.md" | tr -c '*A-Z0-9`' '\n' | sed -n 's/^`\([*A-Z][A-Z]*\)`$/\1/p' | LC_ALL=C sort -u | LC_ALL=C comm -13 - "$scratch/expected" >"$scratch/got"
+cat "$root"/docs/users/*.md | grep '^| ' | tr -c '*A-Z0-9`' '\n' | sed -n 's/^`\([*A-Z][A-Z]*\)`$/\1/p' | LC_ALL=C sort -u | LC_ALL=C comm -13 - "$scratch/expected" >"$scratch/got"
 holds "the guide has every record of HEC-1's manual in a table" test ! -s "$scratch/got"
 holds 'no limit of a field stands in the command' sh -c '! grep -q "1,*440\|9,*999\|9[.]99" "$1"' sh "$root/hec1"
 
@@ -1211,7 +1211,7 @@ while IFS= read -r deck; do
     fi
 done <"$scratch/examples"
 
-# ---- what docs/USERS.md says in its sentences
+# ---- what the guide says in its sentences
 
 # gives DECK LISTING: an accepted deck; refuses NUMBER LINE DECK: a refused one, whatever its words
 gives() {
@@ -1273,7 +1273,7 @@ same 'the guide: a chain of two' "$scratch/expected" "$scratch/got"
 printf '%b' "${chain}KK R\nRM 1,5,0.1\nKK R\nRM 3,15,0.1\nZZ\n" | "$second" --full --named 3 | sed -n 2p >"$scratch/got"
 same 'the guide: a chain of one step and three' "$scratch/expected" "$scratch/got"
 
-# ---- the transcripts of docs/USERS.md
+# ---- the transcripts of the guide: docs/USERS.md, and its parts in their order
 
 # A block 'deck NAME' is that file. A block 'console' has commands behind '$ ' and what each prints, both outputs together.
 guide=$scratch/guide
@@ -1295,7 +1295,7 @@ awk -v steps="$scratch/steps" '
         close(base ".block"); close(base ".command")
         next
     }
-    console { print >(base ".expected") }' "$root/docs/USERS.md"
+    console { print >(base ".expected") }' "$root/docs/USERS.md" "$root"/docs/users/*.md
 block="" last=0
 for command in "$scratch"/steps/*.command; do
     base=${command%.command}
@@ -1305,12 +1305,59 @@ for command in "$scratch"/steps/*.command; do
     { echo "(exit $last)"; cat "$command"; } >"$scratch/script"
     sh "$scratch/script" </dev/null >"$base.got" 2>&1
     last=$?
-    same "docs/USERS.md: $(cat "$command")" "$base.expected" "$base.got"
+    same "the guide: $(cat "$command")" "$base.expected" "$base.got"
 done
 for n in $(numbers 1 "$refusals"); do
-    cat "$scratch"/steps/*.got | grep -q "REFUSED $n [0-9]" || { failed=$((failed + 1)); echo "FAILED: docs/USERS.md does not provoke refusal $n"; continue; }
+    cat "$scratch"/steps/*.got | grep -q "REFUSED $n [0-9]" || { failed=$((failed + 1)); echo "FAILED: the guide does not provoke refusal $n"; continue; }
     passed=$((passed + 1))
 done
+
+# ---- the links of the guide
+
+# Each link goes to a file that is there, and to a heading of it where it names one. A heading is named by its letters, digits, '-' and '_',
+# small, with '-' for blanks. Every section of a part stands in the contents of docs/USERS.md.
+cd "$root/docs" || exit 2
+links() {
+    awk '
+        FNR == 1 { code = 0 }
+        /^```/ { code = !code }
+        code || /^    / { next }
+        /^#/ {
+            head = tolower($0)
+            sub(/^#+ */, "", head)
+            gsub(/[^a-z0-9_ -]/, "", head)
+            gsub(/ /, "-", head)
+            print "head " FILENAME "#" head
+        }
+        {
+            line = $0
+            while (match(line, /\]\([^)]*\)/)) {
+                to = substr(line, RSTART + 2, RLENGTH - 3)
+                line = substr(line, RSTART + RLENGTH)
+                if (to ~ /:/) continue
+                folder = FILENAME
+                if (!sub(/[^\/]*$/, "", folder)) folder = ""
+                if (to ~ /^#/) to = FILENAME to
+                else to = folder to
+                while (sub(/[^\/.]+\/\.\.\//, "", to)) continue
+                print "link " to
+            }
+        }' "$@"
+}
+links USERS.md users/*.md >"$scratch/links"
+holds 'the guide has links' grep -q '^link users/1-writing.md#' "$scratch/links"
+sed -n 's/^head //p' "$scratch/links" | LC_ALL=C sort -u >"$scratch/heads"
+sed -n 's/^link \(.*#.*\)$/\1/p' "$scratch/links" | LC_ALL=C sort -u | LC_ALL=C comm -23 - "$scratch/heads" >"$scratch/got"
+: >"$scratch/expected"
+same 'the guide: links to headings that are not there' "$scratch/expected" "$scratch/got"
+sed -n 's/^link \([^#]*\).*/\1/p' "$scratch/links" | LC_ALL=C sort -u | while IFS= read -r to; do [ -e "$to" ] || echo "$to"; done >"$scratch/got"
+same 'the guide: links to files that are not there' "$scratch/expected" "$scratch/got"
+links USERS.md | sed -n 's/^link //p' | LC_ALL=C sort -u >"$scratch/contents"
+grep '^users/.*#[1-5][0-9]-' "$scratch/heads" | grep -v '^users/3' | LC_ALL=C comm -23 - "$scratch/contents" >"$scratch/got"
+same 'the guide: sections that its contents lack' "$scratch/expected" "$scratch/got"
+grep '^users/3-refusals.md#[1-9]' "$scratch/heads" | LC_ALL=C comm -23 - "$scratch/contents" >"$scratch/got"
+same 'the guide: refusals that its entrance lacks' "$scratch/expected" "$scratch/got"
+holds 'the guide has a heading for every refusal' test "$(grep -c '^users/3-refusals.md#[1-9][0-9]*-' "$scratch/heads")" = "$refusals"
 
 # ---- the decks of examples/
 
