@@ -1312,6 +1312,23 @@ for n in $(numbers 1 "$refusals"); do
     passed=$((passed + 1))
 done
 
+# the scripts of examples/from-hec1 say the same under every awk that is here, and say so where they are called wrongly
+sh "$root/examples/from-hec1/compare.sh" >"$scratch/expected"
+for other in mawk gawk original-awk busybox; do
+    at=$(command -v "$other") || continue
+    mkdir -p "$scratch/awks/$other"
+    case $other in busybox) words=' awk' ;; *) words= ;; esac
+    printf '#!/bin/sh\nexec "%s"%s "$@"\n' "$at" "$words" >"$scratch/awks/$other/awk"
+    chmod +x "$scratch/awks/$other/awk"
+    PATH=$scratch/awks/$other:$PATH sh "$root/examples/from-hec1/compare.sh" >"$scratch/got"
+    same "the scripts of examples/from-hec1 under $other" "$scratch/expected" "$scratch/got"
+done
+for script in ui-from-ud ui-from-uc base-flow; do
+    awk -f "$root/examples/from-hec1/$script.awk" 1 </dev/null >"$scratch/out" 2>"$scratch/err"
+    holds "$script.awk, called wrongly: status" test $? = 2
+    holds "$script.awk, called wrongly: words" grep -q "^$script.awk: usage: " "$scratch/err"
+done
+
 # ---- the links of the guide
 
 # Each link goes to a file that is there, and to a heading of it where it names one. A heading is named by its letters, digits, '-' and '_',
