@@ -80,6 +80,6 @@ network() {
     {
         printf 'STREAM NETWORK: %s\n\n  LINE  (V) ROUTED  (.) HELD OR JOINED\n\n' "$name"
         diagram
-    } >"$work/text"
+    } | sed 's/ *$//' >"$work/text"
     show "$work/text"
 }

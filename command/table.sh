@@ -204,6 +204,6 @@ table() {
             echo
             across
         fi
-    fi >"$work/table"
+    fi | sed 's/ *$//' >"$work/table"
     show "$work/table"
 }
