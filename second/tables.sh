@@ -94,6 +94,11 @@ printf '%b' "bad.hc1${bad_words}hec1: none.hc1: no such file\n" >"$scratch/expec
 same 'decks side by side: words' "$scratch/expected" "$scratch/err"
 printf '%b' "$basin" >'a\tb "c" %s.hc1'
 try 'a table of an odd name' 0 "RUNOFF SUMMARY: a\\\\tb \"c\" %s.hc1\nPOND\n\n$head$rows" '' "$hec1" --table 'a\tb "c" %s.hc1'
+# a path's blanks end no line
+printf '%b' "$basin" >'blanks  '
+both --table 'blanks  '
+both --network 'blanks  '
+both --table 'blanks  ' basin.hc1
 # the most: 300 times 100,000 cfs for a day, over 0.01 square mile
 awk 'BEGIN { print "*FREE\nIT 1440,,,300\nKK MOST\nBA 0.01"; for (k = 0; k < 300; k++) print "QI 100000"; print "ZZ" }' >"$scratch/in"
 try 'the largest figures' 0 'RUNOFF SUMMARY: -\n\nOPERATION      STATION   PEAK CFS  TIME H:MM     ACRE-FEET         INCHES  SQ MILES
