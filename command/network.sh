@@ -47,7 +47,7 @@ graph() {
         {
             label = quoted($2 "\n" word[$3])
             sub(/\n/, "\\n", label)
-            printf "    b%d [label=%s, shape=%s, fillcolor=\"%s\"%s];\n", NR, label, shape[$3], fill[$3], $3 == 4 ? ", style=\"filled,rounded\"" : ""
+            printf "    b%d [label=%s, shape=%s, fillcolor=\"%s\"%s];\n", NR, label, shape[$3], fill[$3], ($3 == 4 ? ", style=\"filled,rounded\"" : "")
             for (k = held - $4 + 1; k <= held; k++) printf "    b%d -> b%d;\n", on[k], NR
             held += 1 - $4
             on[held] = NR

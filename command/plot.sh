@@ -59,7 +59,8 @@ plot_script() {
             for (k = 33; k < 127; k++) if (sprintf("%c", k) !~ /[A-Za-z]/) number[sprintf("%c", k)] = k
             colours = split("#0072b2 #d55e00 #009e73 #cc79a7 #e69f00 #56b4e9 #000000", colour, " ")
             dashes = split("solid,\047-\047,\047.\047,\047-.\047,\047-..\047", dash, ",")
-            print ENVIRON["FORMAT"] == "svg" ? "set terminal svg size 960,540 noenhanced font \047Helvetica,14\047 background \047white\047" : "set terminal pngcairo size 1280,720 noenhanced font \047Helvetica,14\047"
+            size = ENVIRON["FORMAT"] == "svg" ? "svg size 960,540 background \047white\047" : "pngcairo size 1280,720"
+            print "set terminal " size " noenhanced font \047Helvetica,14\047"
             print "set encoding utf8"
             print "set title " quoted(ENVIRON["TITLE"] == "" ? ENVIRON["NAME"] : ENVIRON["TITLE"])
             print "set xlabel \047hours from the start\047"
@@ -96,7 +97,7 @@ plot_script() {
             for (k = 1; k in curve; k++) {
                 c = count["ratio"] > 1 ? place("ratio", under[k]) : place("block", block[k])
                 d = count["ratio"] > 1 ? place("block", block[k]) : int(c / colours)
-                printf "%s $curve%d using ($1/60.0):2 with lines linewidth 2 linecolor \047%s\047 dashtype %s title %s", k == 1 ? "plot" : ",", k, colour[c % colours + 1], dash[d % dashes + 1], quoted(curve[k])
+                printf "%s $curve%d using ($1/60.0):2 with lines linewidth 2 linecolor \047%s\047 dashtype %s title %s", (k == 1 ? "plot" : ","), k, colour[c % colours + 1], dash[d % dashes + 1], quoted(curve[k])
             }
             print ""
         }' "$work/curves" "$work/texts"
