@@ -37,8 +37,8 @@ name_curves() {
         { print $0, name[$1] (called[name[$1]] > 1 ? " (block " $1 ")" : "") (ratios ? ", ratio " ratio[$2] : "") }' "$work/listing" "$work/asked" >"$work/curves"
 }
 
-# plot_script: what gnuplot draws: the texts of the curves that the file curves names. Under several ratios a ratio has its colour and a
-# block its dashes; else a block has its colour. The colours are told apart by those too who see few.
+# plot_script: what gnuplot draws: the texts of the curves that the file curves names. Under several ratios, of which there are nine at most, a
+# ratio has its colour and a block its dashes; else a block has its colour. The first seven are told apart by those too who see few.
 plot_script() {
     NAME=$name TITLE=$(title) FORMAT=$format LC_ALL=C awk '
         # a text in quotes; what is no letter or blank is written by its number, since gnuplot runs what stands in backquotes, and takes a digit
@@ -57,7 +57,7 @@ plot_script() {
         }
         BEGIN {
             for (k = 33; k < 127; k++) if (sprintf("%c", k) !~ /[A-Za-z]/) number[sprintf("%c", k)] = k
-            colours = split("#0072b2 #d55e00 #009e73 #cc79a7 #e69f00 #56b4e9 #000000", colour, " ")
+            colours = split("#0072b2 #d55e00 #009e73 #cc79a7 #e69f00 #56b4e9 #000000 #999999 #882255", colour, " ")
             dashes = split("solid,\047-\047,\047.\047,\047-.\047,\047-..\047", dash, ",")
             size = ENVIRON["FORMAT"] == "svg" ? "svg size 960,540 background \047white\047" : "pngcairo size 1280,720"
             print "set terminal " size " noenhanced font \047Helvetica,14\047"
@@ -88,11 +88,14 @@ plot_script() {
         /^[0-9]/ {
             split($0, cell, ",")
             print cell[2] "," cell[3]
-            last = cell[2]
+            minutes[++points] = last = cell[2]
+            flow[points] = cell[3]
             if (cell[3] + 0 > most) most = cell[3] + 0
         }
         END {
-            print "set xrange [0:" last "/60.0]"
+            for (k = 1; k <= points; k++) if (flow[k] * 1000 > most && minutes[k] > shown + 0) shown = minutes[k]
+            shown = int(shown * 1.05)
+            print "set xrange [0:" (shown && shown < last ? shown : last) "/60.0]"
             print "set yrange [0:" (most ? "*" : 1) "]"
             for (k = 1; k in curve; k++) {
                 c = count["ratio"] > 1 ? place("ratio", under[k]) : place("block", block[k])
