@@ -94,7 +94,7 @@ plot_script() {
         }
         END {
             for (k = 1; k <= points; k++) if (flow[k] * 1000 > most && minutes[k] > shown + 0) shown = minutes[k]
-            shown = int(shown * 1.05)
+            if (shown) shown += shown > 20 * minutes[1] ? int(shown / 20) : minutes[1]
             print "set xrange [0:" (shown && shown < last ? shown : last) "/60.0]"
             print "set yrange [0:" (most ? "*" : 1) "]"
             for (k = 1; k in curve; k++) {

@@ -256,12 +256,15 @@ printf '*FREE\nIT 60,,,4\nKK Z\nQI 0\nZZ\n' >zero.hc1
 plot 'zero' zero.hc1
 holds 'no flow at all has an axis' grep -qx 'set yrange \[0:1\]' "$scratch/kept"
 
-# the axis of time ends behind the last flow above a thousandth of the highest, a twentieth more, or with the run
-for flows in '1000,1,1,1.01:240' '1000,1,1.01,1,1:189' '0,0,1000,0,1,1,1:189' '1000,0,0,0:63' '0,0,0,0,0:300'; do
+# the axis of time ends behind the last flow above a thousandth of the highest, an interval or a twentieth more, or with the run
+for flows in '1000,1,1,1.01:240' '1000,1,1.01,1,1:240' '0,0,1000,0,1,1,1:240' '1000,0,0,0:120' '0,0,0,0,0:300'; do
     printf '*FREE\nIT 60,,,%s\nKK A\nQI %s\nZZ\n' "$(echo "${flows%:*}" | tr ',' '\n' | wc -l)" "${flows%:*}" >tail.hc1
     plot 'the axis of time' tail.hc1
     holds "the axis of time, $flows" grep -qx "set xrange \\[0:${flows#*:}/60.0\\]" "$scratch/kept"
 done
+awk 'BEGIN { print "*FREE\nIT 60,,,300\nKK A"; for (k = 0; k < 100; k++) print "QI 1"; print "ZZ" }' >tail.hc1
+plot 'the axis of time' tail.hc1
+holds 'the axis of time, a third' grep -qx 'set xrange \[0:6300/60.0\]' "$scratch/kept"
 awk 'BEGIN { print "*FREE\nIT 60,,,3\nJR PREC,1,2,3,4,5,6,7,8,9\nKK A\nBA 1\nPI 1\nLU\nUI 10\nZZ" }' >nine.hc1
 plot 'nine ratios' nine.hc1
 holds 'nine ratios have nine colours' test "$(grep '^plot ' "$scratch/kept" | grep -o "linecolor '#[0-9a-f]*' dashtype solid" | sort -u | wc -l)" = 9
