@@ -10,7 +10,7 @@ acre_foot=43560000
 # A thousandth of an inch over a hundredth of a square mile, which is 6.4 acres, in the same.
 inch=23232000
 
-# divide A B: sets quotient to A / B to three places, where A is in thousandths of B's unit; B is even
+# divide A B: sets quotient to A / B thousandths, rounded half up and written with three places; B is even
 divide() {
     quotient=$((($1 + $2 / 2) / $2))
     places=$((quotient % 1000 + 1000))
