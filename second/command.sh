@@ -1320,6 +1320,8 @@ for other in mawk gawk original-awk busybox; do
     case $other in busybox) words=' awk' ;; *) words= ;; esac
     printf '#!/bin/sh\nexec "%s"%s "$@"\n' "$at" "$words" >"$scratch/awks/$other/awk"
     chmod +x "$scratch/awks/$other/awk"
+    # one that is built without roots and powers says so, and cannot run them
+    if [ "$("$scratch/awks/$other/awk" 'BEGIN { print (sqrt(4) ^ .5 > 1) }' 2>/dev/null)" != 1 ] && [ "$other" = busybox ]; then continue; fi
     PATH=$scratch/awks/$other:$PATH sh "$root/examples/from-hec1/compare.sh" >"$scratch/got"
     same "the scripts of examples/from-hec1 under $other" "$scratch/expected" "$scratch/got"
 done
