@@ -15,6 +15,12 @@ titles() {
 # title: the first of them
 title() { titles | head -n 1; }
 
+# heading: what stands above a picture: the title, or the deck's name where it has none
+heading() {
+    heading=$(title)
+    printf '%s\n' "${heading:-$name}"
+}
+
 # drawn: a line for each block that is closed above line $1 of the deck in the work folder, or up to ZZ where $1 is 0: the line of its KK,
 # its name, its kind and how many hydrographs it takes. Lines above one that is refused have been read soundly, so that what stands in
 # them may be taken as it is.

@@ -31,7 +31,7 @@ diagram() {
 # graph: the blocks of the file drawn as graphviz reads them: a shape for each kind, which stands below the name too, and an arrow from each
 # block to the one that takes it
 graph() {
-    TITLE=$(title) NAME=$name LC_ALL=C awk '
+    HEADING=$(heading) LC_ALL=C awk '
         function quoted(text) {
             gsub(/[\\"]/, "\\\\&", text)
             return "\"" text "\""
@@ -41,7 +41,7 @@ graph() {
             split("box,ellipse,ellipse,box,cylinder", shape, ",")
             split("#d9ead3,#cfe2f3,#eeeeee,#ffffff,#cfe2f3", fill, ",")
             print "digraph network {"
-            print "    label=" quoted(ENVIRON["TITLE"] == "" ? ENVIRON["NAME"] : ENVIRON["TITLE"]) "; labelloc=t; fontname=Helvetica;"
+            print "    label=" quoted(ENVIRON["HEADING"]) "; labelloc=t; fontname=Helvetica;"
             print "    node [fontname=Helvetica, fontsize=12, style=filled, margin=\"0.1,0.05\"]; edge [arrowsize=0.7];"
         }
         {

@@ -40,7 +40,7 @@ name_curves() {
 # plot_script: what gnuplot draws: the texts of the curves that the file curves names. Under several ratios, of which there are nine at most, a
 # ratio has its colour and a block its dashes; else a block has its colour. The first seven are told apart by those too who see few.
 plot_script() {
-    NAME=$name TITLE=$(title) FORMAT=$format LC_ALL=C awk '
+    HEADING=$(heading) FORMAT=$format LC_ALL=C awk '
         # a text in quotes; what is no letter or blank is written by its number, since gnuplot runs what stands in backquotes, and takes a digit
         # behind a number for one of it
         function quoted(text,    k, byte, said) {
@@ -62,7 +62,7 @@ plot_script() {
             size = ENVIRON["FORMAT"] == "svg" ? "svg size 960,540 background \047white\047" : "pngcairo size 1280,720"
             print "set terminal " size " noenhanced font \047Helvetica,14\047"
             print "set encoding utf8"
-            print "set title " quoted(ENVIRON["TITLE"] == "" ? ENVIRON["NAME"] : ENVIRON["TITLE"])
+            print "set title " quoted(ENVIRON["HEADING"])
             print "set xlabel \047hours from the start\047"
             print "set ylabel \047flow in cfs\047"
             print "set datafile separator \047,\047"
@@ -100,7 +100,8 @@ plot_script() {
             for (k = 1; k in curve; k++) {
                 c = count["ratio"] > 1 ? place("ratio", under[k]) : place("block", block[k])
                 d = count["ratio"] > 1 ? place("block", block[k]) : int(c / colours)
-                printf "%s $curve%d using ($1/60.0):2 with lines linewidth 2 linecolor \047%s\047 dashtype %s title %s", (k == 1 ? "plot" : ","), k, colour[c % colours + 1], dash[d % dashes + 1], quoted(curve[k])
+                printf "%s $curve%d using ($1/60.0):2 with lines linewidth 2", (k == 1 ? "plot" : ","), k
+                printf " linecolor \047%s\047 dashtype %s title %s", colour[c % colours + 1], dash[d % dashes + 1], quoted(curve[k])
             }
             print ""
         }' "$work/curves" "$work/texts"

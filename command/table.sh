@@ -52,26 +52,30 @@ figures() {
     done
 }
 
-# minutes: those of the deck's interval, as the proved program has them
-minutes() {
-    echo 0 0 >"$work/asked"
-    answer hydrograph "$hydrograph_head" || exit "$status"
-    sed -n '2s/^1,\([0-9]*\),.*/\1/p' "$work/texts"
+# look_at_minutes: has the file texts begin with a hydrograph, which tells the minutes of an interval. What warnings want begins so too.
+look_at_minutes() {
+    if [ -z "$quiet" ]; then
+        look_into
+    else
+        echo 0 0 >"$work/asked"
+        answer hydrograph "$hydrograph_head"
+    fi
 }
 
 # add_columns: the accepted deck in the work folder, which is shown as $name, to the files rows (column, operation, number combined, station
 # and figures of a block) and legend (column and words)
 add_columns() {
     draw_listed
-    interval=$(minutes) || exit
-    figures "$interval" <"$work/listing" >"$work/figures"
+    minutes=$(sed -n '2s/^1,\([0-9]*\),.*/\1/p' "$work/texts")
+    if [ -z "$minutes" ]; then die "$name: the program tells no minutes"; fi
+    figures "$minutes" <"$work/listing" >"$work/figures"
     TITLE=$(title) NAME=$name LEGEND=$work/legend LC_ALL=C awk -v column="$columns" '
         function name_column(words) {
             print ++column, ENVIRON["NAME"] words (ENVIRON["TITLE"] == "" ? "" : ": " ENVIRON["TITLE"]) >>ENVIRON["LEGEND"]
             block = 0
         }
         NR == FNR {
-            code[NR] = $3 == 3 ? "C" : $3 > 3 ? "R" : "H"
+            letter[NR] = $3 == 3 ? "C" : $3 > 3 ? "R" : "H"
             number[NR] = $4
             station[NR] = $2
             next
@@ -83,7 +87,7 @@ add_columns() {
         FNR == 1 { name_column("") }
         {
             block++
-            print column, code[block], number[block], station[block], $0
+            print column, letter[block], number[block], station[block], $0
         }' "$work/drawn" "$work/figures" >>"$work/rows"
     columns=$(sed -n '$s/ .*//p' "$work/rows")
 }
@@ -111,10 +115,16 @@ in_columns() {
 # The heads of a block's figures, in the order of figures.
 heads='PEAK CFS,TIME H:MM,ACRE-FEET,INCHES,SQ MILES'
 
+# An operation in words, for awk, by its letter; the number that is combined, below 0 where decks differ in it.
+operation='
+        function operation(letter, number) {
+            if (letter != "C") return letter == "H" ? "HYDROGRAPH AT" : "ROUTED TO"
+            return (number < 0 ? "" : number " ") "COMBINED AT"
+        }'
+
 # down: the rows of one column as a table, blocks down and figures across
 down() {
-    HEADS=$heads LC_ALL=C awk '
-        function operation(code, number) { return code == "H" ? "HYDROGRAPH AT" : code == "R" ? "ROUTED TO" : number " COMBINED AT" }
+    HEADS=$heads LC_ALL=C awk "$operation"'
         BEGIN {
             OFS = "\t"
             split(ENVIRON["HEADS"], head, ",")
@@ -126,10 +136,7 @@ down() {
 # across: the rows of all columns as one table, stations and their figures down and columns across. A station is one by its operation,
 # whatever number it combines, its name, and which one it is of its column with both.
 across() {
-    HEADS=$heads LC_ALL=C awk '
-        function operation(code, number) {
-            return code == "H" ? "HYDROGRAPH AT" : code == "R" ? "ROUTED TO" : (number < 0 ? "" : number " ") "COMBINED AT"
-        }
+    HEADS=$heads LC_ALL=C awk "$operation"'
         BEGIN { split(ENVIRON["HEADS"], head, ",") }
         {
             columns = $1
@@ -171,19 +178,18 @@ table() {
     columns=0
     : >"$work/rows"
     : >"$work/legend"
+    ready hec1
+    ready hydrograph
     for file; do
         take "$file" || continue
         shown "$file"
-        ready hec1
         work_out
         accepted
         case $? in
         0)
+            look_at_minutes
             add_columns
-            if [ -z "$quiet" ]; then
-                look_into
-                warn
-            fi
+            if [ -z "$quiet" ]; then warn; fi
             ;;
         1) printf -- '- %s: %s\n' "$name" "$(cat "$work/listing")" >>"$work/legend" ;;
         esac

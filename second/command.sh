@@ -1404,11 +1404,7 @@ same 'the listing that README.md opens with' examples/nine-acre-pond/five-storms
 
 # ---- how the program is built, with a stand-in for the kit that counts its runs
 
-# The tools that the command wants, and nothing else: there is no rt among them.
-mkdir "$scratch/nothing"
-for tool in sh awk sed cat env find head tail tr mktemp rm readlink dirname uname grep date cp mv touch mkdir wc; do
-    at=$(command -v "$tool") && ln -s "$at" "$scratch/nothing/$tool"
-done
+bare_tools
 
 # installed NAME COMMAND: a command that was installed, moved and called from another folder without the kit says what "$hec1" says
 installed() {

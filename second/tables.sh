@@ -119,7 +119,8 @@ fi
 
 # ---- the network
 
-diagram='     4      UP\n            V\n            V\n     9     RIV\n            .\n            .\n    11      .        SIDE\n            .         .\n            .         .\n    13     OUT.........\n'
+diagram='     4      UP\n            V\n            V\n     9     RIV\n            .\n            .\n    11      .        SIDE
+            .         .\n            .         .\n    13     OUT.........\n'
 key='\n\n  LINE  (V) ROUTED  (.) HELD OR JOINED\n\n'
 input "$basin"
 try 'a network' 0 "STREAM NETWORK: basin.hc1$key$diagram" '' "$hec1" --network basin.hc1
@@ -147,7 +148,10 @@ holds 'a network of too many: the last' test "$(tail -n 1 "$scratch/out")" = '  
 
 mkdir "$scratch/tools"
 for tool in gnuplot dot; do
-    printf '#!/bin/sh\nfor last; do :; done\n{ echo "$@" | sed "s| [^ ]*$||"; cat "$last"; } >"%s/kept"\nif [ -e "%s/fault" ]; then echo "line 1: bad" >&2; exit 1; fi\necho %s\n' "$scratch" "$scratch" "$tool" >"$scratch/tools/$tool"
+    {
+        printf '#!/bin/sh\nfor last; do :; done\n{ echo "$@" | sed "s| [^ ]*$||"; cat "$last"; } >"%s/kept"\n' "$scratch"
+        printf 'if [ -e "%s/fault" ]; then echo "line 1: bad" >&2; exit 1; fi\necho %s\n' "$scratch" "$tool"
+    } >"$scratch/tools/$tool"
     chmod +x "$scratch/tools/$tool"
 done
 real=$PATH
@@ -309,11 +313,8 @@ holds 'a network drawn: odd names' grep -qF 'b1 [label="a\"\\n%x\ninflow",' "$sc
 "$hec1" --network --to - basin.hc1 >"$scratch/out" 2>"$scratch/err"
 holds 'a network drawn to standard output' test "$(cat "$scratch/out" "$scratch/err")" = dot
 
-# without the programs that draw: the tools that the command wants, and nothing else
-mkdir "$scratch/nothing"
-for tool in sh awk sed cat env find head tail tr mktemp rm readlink dirname uname grep date cp mv touch mkdir wc; do
-    at=$(command -v "$tool") && ln -s "$at" "$scratch/nothing/$tool"
-done
+# without the programs that draw
+bare_tools
 for deck in basin.hc1 bad.hc1; do
     try "no gnuplot, $deck" 2 '' "hec1: gnuplot is missing, which draws the picture (Debian's package gnuplot-nox: apt-get install gnuplot-nox, as root)\n" \
         env PATH="$scratch/nothing" "$hec1" --plot "$deck"

@@ -66,3 +66,11 @@ try() {
 }
 
 input() { printf '%b' "$1" >"$scratch/in"; }
+
+# bare_tools: makes a folder with the tools that the command wants, and nothing else: there is neither rt nor a program that draws among them
+bare_tools() {
+    mkdir "$scratch/nothing"
+    for tool in sh awk sed cat env find head tail tr mktemp rm readlink dirname uname grep date cp mv touch mkdir wc; do
+        at=$(command -v "$tool") && ln -s "$at" "$scratch/nothing/$tool"
+    done
+}
