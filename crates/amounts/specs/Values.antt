@@ -3,7 +3,7 @@ use Rattle.meaning.specs.Numbers as meaning
 use Rattle.amounts.specs.declared.Value.{Value}
 use Rattle.amounts.specs.declared.Value.TheVariants.{Malformed, Negative, Units}
 
-abbrev pub valueIs : Value → meaning.Value
-valueIs Malformed = meaning.Malformed
-valueIs Negative = meaning.Negative
-valueIs (Units v) = meaning.Units v
+abbrev pub value_is : Value → meaning.Value
+value_is Malformed = meaning.Malformed
+value_is Negative = meaning.Negative
+value_is (Units v) = meaning.Units v

@@ -1,8 +1,8 @@
 // The value of a field: its number in units of the last of the places that the field allows. How a number is read from bytes is not told here.
 ghost use Rattle.std.specs.Prelude.{◌≡◌, ◌^◌, ◌≤◌, ◌<◌};
-ghost use Rattle.meaning.specs.Numbers.{number_of, inUnits};
-ghost use Rattle.numbers.specs.Reading.{numberIs};
-ghost use Rattle.amounts.specs.Values.{valueIs};
+ghost use Rattle.meaning.specs.Numbers.{number_of, in_units};
+ghost use Rattle.numbers.specs.Reading.{number_is};
+ghost use Rattle.amounts.specs.Values.{value_is};
 
 use numbers::Number;
 
@@ -30,7 +30,7 @@ fn ten_to(k: u64) -> u64
 // A number in units of the last of the places allowed.
 fn in_units(allowed: u64, minus: bool, digits: u64, places: u64) -> Value
     requires { (allowed ≤ 4) × (digits < 10 ^ 9) }
-    ensures { valueIs result ≡ inUnits allowed (numberIs (Number.Decimal minus digits places)) }
+    ensures { value_is result ≡ in_units allowed (number_is (Number.Decimal minus digits places)) }
 {
     if allowed < places {
         return Value::Malformed;
@@ -46,7 +46,7 @@ fn in_units(allowed: u64, minus: bool, digits: u64, places: u64) -> Value
 // The value of a field that allows so many places.
 pub fn read_value(f: &[u8], allowed: u64) -> Value
     requires { allowed ≤ 4 }
-    ensures { valueIs result ≡ inUnits allowed (number_of f.now) }
+    ensures { value_is result ≡ in_units allowed (number_of f.now) }
 {
     match numbers::read_number(f) {
         Number::NoNumber => Value::Malformed,

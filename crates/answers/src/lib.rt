@@ -1,8 +1,8 @@
 // What a run answers: the answer itself, the refusals that go by sizes alone (1, 2 and 17), the refusal that leaves zeros in all that was lent, and the end of a run
 // whose deck is sound.
 ghost use Rattle.std.specs.Prelude.{◌≡◌, ◌≤◌};
-ghost use Rattle.meaning.specs.Run.{refused, mostBlocks};
-ghost use Rattle.answers.specs.Answers.{outcomeIs, lent_as, lacking, sizeRefusal, settledAs};
+ghost use Rattle.meaning.specs.Run.{refused, most_blocks};
+ghost use Rattle.answers.specs.Answers.{outcome_is, lent_as, lacking, size_refusal, settled_as};
 
 // The words that a run works in, and the bytes that a deck may have.
 pub const WORK: usize = 6_000;
@@ -18,7 +18,7 @@ pub enum Answer {
 
 // What is refused before the deck is read: too few words to work in (1), a deck too long (2); 0 for neither.
 pub fn size_refusal(work: usize, deck: usize) -> u64
-    ensures { result ≡ sizeRefusal work deck }
+    ensures { result ≡ size_refusal work deck }
 {
     if work < WORK {
         return 1;
@@ -37,7 +37,7 @@ pub fn refuse(
     flows: &mut [u64],
     bytes: &mut [u8],
 ) -> Answer
-    ensures { outcomeIs result words.new flows.new bytes.new ≡ refused number line (lent_as words.old flows.old bytes.old) }
+    ensures { outcome_is result words.new flows.new bytes.new ≡ refused number line (lent_as words.old flows.old bytes.old) }
 {
     slices::zero_words(words);
     slices::zero_words(flows);
@@ -55,7 +55,7 @@ fn lacks_room(
     ordinates: usize,
     records: usize,
 ) -> bool
-    requires { (blocks ≤ mostBlocks) × (ratios ≤ 9) }
+    requires { (blocks ≤ most_blocks) × (ratios ≤ 9) }
     ensures { result ≡ lacking nq blocks ratios named ratio ordinates records }
 {
     if ordinates < nq {
@@ -81,8 +81,8 @@ pub fn settle(
     ordinates: &mut [u64],
     records: &mut [u8],
 ) -> Answer
-    requires { (blocks ≤ mostBlocks) × (ratios ≤ 9) }
-    ensures { outcomeIs result work.new ordinates.new records.new ≡ settledAs nq blocks ratios named ratio work.old ordinates.old records.old }
+    requires { (blocks ≤ most_blocks) × (ratios ≤ 9) }
+    ensures { outcome_is result work.new ordinates.new records.new ≡ settled_as nq blocks ratios named ratio work.old ordinates.old records.old }
 {
     if lacks_room(
         nq,

@@ -5,15 +5,15 @@ use Rattle.blocks.specs.declared.Ratios.{Ratios}
 use Rattle.blocks.specs.declared.Time.{Time}
 use Rattle.blocks.specs.declared.Name.{Name}
 
-abbrev pub ratiosIs : Ratios → List ℕ
-ratiosIs r = take r.count r.values
+abbrev pub ratios_is : Ratios → List ℕ
+ratios_is r = take r.count r.values
 
-abbrev pub timeIs : Time → blocks.Time
-timeIs t = record { minutes = t.minutes; ordinates = t.ordinates; ratio = t.ratio; listed = ratiosIs t.ratios }
+abbrev pub time_is : Time → blocks.Time
+time_is t = record { minutes = t.minutes; ordinates = t.ordinates; ratio = t.ratio; listed = ratios_is t.ratios }
 
 -- with another ratio in force
-abbrev pub timeUnder : ℕ → Time → Time
-timeUnder ratio t = record { minutes = t.minutes; ordinates = t.ordinates; ratio = ratio; ratios = t.ratios }
+abbrev pub time_under : ℕ → Time → Time
+time_under ratio t = record { minutes = t.minutes; ordinates = t.ordinates; ratio = ratio; ratios = t.ratios }
 
-abbrev pub nameIs : Name → List ℕ
-nameIs name = take name.letters name.bytes
+abbrev pub name_is : Name → List ℕ
+name_is name = take name.letters name.bytes

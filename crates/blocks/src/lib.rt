@@ -3,11 +3,11 @@
 ghost use Rattle.std.specs.Prelude.{◌≡◌, false, List, [], ℕ, suc, ◌+◌, ◌≤◌, ◌<◌, length, take, get_or, set};
 ghost use Rattle.std.proofs.Math.Seq.{paste};
 ghost use Rattle.meaning.specs.Words.{◌<?◌, met, if◌then◌else◌};
-ghost use Rattle.meaning.specs.Records.{row_of, table, mostOrdinates};
-ghost use Rattle.meaning.specs.Blocks.{isGiven, values_of, cardOf, repeated, opened};
-ghost use Rattle.blocks.specs.Meant.{ratiosIs, timeUnder};
-ghost use Rattle.blocks.specs.Cards.{headIn, countBy, block_of, Counted, Readable, Takes};
-ghost use Rattle.records.specs.Rows.{items, spanIn, words_of};
+ghost use Rattle.meaning.specs.Records.{row_of, table, most_ordinates};
+ghost use Rattle.meaning.specs.Blocks.{is_given, values_of, card_of, repeated, opened};
+ghost use Rattle.blocks.specs.Meant.{ratios_is, time_under};
+ghost use Rattle.blocks.specs.Cards.{head_in, count_by, block_of, Counted, Readable, Takes};
+ghost use Rattle.records.specs.Rows.{items, span_in, words_of};
 
 // The ratios that JR lists, in hundredths, of which the first `count` count; none where there is no JR.
 #[derive(Drop)]
@@ -27,7 +27,7 @@ pub struct Time {
 
 // No ratios, as where there is no JR.
 pub fn no_ratios() -> Ratios
-    ensures { (ratiosIs result ≡ []) × (result.count ≤ 9) }
+    ensures { (ratios_is result ≡ []) × (result.count ≤ 9) }
 {
     Ratios {
         values: [0u64; 9],
@@ -38,7 +38,7 @@ pub fn no_ratios() -> Ratios
 // The ratio at a place, from 0; 1.00 where none is listed there.
 pub fn ratio_at(ratios: Ratios, k: usize) -> u64
     requires { ratios.count ≤ 9 }
-    ensures { result ≡ get_or (ratiosIs ratios) k 100 }
+    ensures { result ≡ get_or (ratios_is ratios) k 100 }
 {
     if k < ratios.count {
         return ratios.values[k];
@@ -48,7 +48,7 @@ pub fn ratio_at(ratios: Ratios, k: usize) -> u64
 
 // The time control with another ratio in force.
 pub fn under(time: Time, ratio: u64) -> Time
-    ensures { result ≡ timeUnder ratio time }
+    ensures { result ≡ time_under ratio time }
 {
     let ratios = time.ratios;
     Time {
@@ -68,7 +68,7 @@ pub struct Name {
 
 // How many values a head counts.
 fn count_by(head: u64) -> usize
-    ensures { result ≡ countBy head }
+    ensures { result ≡ count_by head }
 {
     if head == 0 {
         return 0;
@@ -91,9 +91,9 @@ fn append(region: &mut [u64], at: usize, values: &[u64], n: usize)
 // A line's values taken into a record's region, which may hold `most` of them; else the region stays, and the answer is 8.
 fn take_in(region: &mut [u64], values: &[u64], n: usize, most: usize) -> u64
     requires n_bound { (n ≤ 10) × (n ≤ length values.now) }
-    requires region_bound { (headIn region.old ≤ suc most) × (suc most ≤ length region.old) }
-    ensures value { result ≡ met (most <? (countBy (headIn region.old) + n)) 8 }
-    ensures region_after { region.new ≡ (if most <? (countBy (headIn region.old) + n) then region.old else set (paste region.old (suc (countBy (headIn region.old))) values.now n) 0 (suc (countBy (headIn region.old) + n))) }
+    requires region_bound { (head_in region.old ≤ suc most) × (suc most ≤ length region.old) }
+    ensures value { result ≡ met (most <? (count_by (head_in region.old) + n)) 8 }
+    ensures region_after { region.new ≡ (if most <? (count_by (head_in region.old) + n) then region.old else set (paste region.old (suc (count_by (head_in region.old))) values.now n) 0 (suc (count_by (head_in region.old) + n))) }
 {
     let count = count_by(region[0]);
     if most < count + n {
@@ -109,7 +109,7 @@ pub fn take_values(cards: &mut [u64], item: usize, values: &[u64], count: usize,
     requires item_lt { (item < items) × (count ≤ 10) × (10 ≤ length values.now) }
     requires by_index { (name : List ℕ) → repeated item (block_of name cards.old) ≡ false }
     requires counted { Counted nq cards.old }
-    ensures { Takes item nq (take (spanIn (row_of item) count) values.now) cards.old result cards.new }
+    ensures { Takes item nq (take (span_in (row_of item) count) values.now) cards.old result cards.new }
 {
     let from = records::start_of(item);
     let to = records::start_of(item + 1);
@@ -123,7 +123,7 @@ pub fn take_values(cards: &mut [u64], item: usize, values: &[u64], count: usize,
 // Whether a record is there.
 pub fn is_given(cards: &[u64], item: usize) -> bool
     requires { (item < items) × Readable cards.now }
-    ensures { (name : List ℕ) → result ≡ isGiven (cardOf item (block_of name cards.now)) }
+    ensures { (name : List ℕ) → result ≡ is_given (card_of item (block_of name cards.now)) }
 {
     let at = records::start_of(item);
     0 < cards[at]
@@ -143,7 +143,7 @@ pub fn is_repeated(cards: &[u64], item: usize) -> bool
 // A record's values; none where it is not there.
 pub fn values(cards: &[u64], item: usize) -> &[u64]
     requires { (item < items) × Readable cards.now }
-    ensures { (name : List ℕ) → result.now ≡ values_of (cardOf item (block_of name cards.now)) }
+    ensures { (name : List ℕ) → result.now ≡ values_of (card_of item (block_of name cards.now)) }
 {
     let at = records::start_of(item);
     let from = at + 1;
@@ -154,7 +154,7 @@ pub fn values(cards: &[u64], item: usize) -> &[u64]
 // Value `k` of a record, from 0; 0 where there is none.
 pub fn value_at(cards: &[u64], item: usize, k: usize) -> u64
     requires { (item < items) × Readable cards.now }
-    ensures { (name : List ℕ) → result ≡ get_or (values_of (cardOf item (block_of name cards.now))) k 0 }
+    ensures { (name : List ℕ) → result ≡ get_or (values_of (card_of item (block_of name cards.now))) k 0 }
 {
     let vs = values(cards, item);
     if k < vs.len() {
@@ -166,7 +166,7 @@ pub fn value_at(cards: &[u64], item: usize, k: usize) -> u64
 // No record is there: a block just opened. The values need not be touched.
 pub fn clear(cards: &mut [u64])
     requires { words_of table ≤ length cards.old }
-    ensures { ((name : List ℕ) → block_of name cards.new ≡ opened name) × ((nq : ℕ) → nq ≤ mostOrdinates → Counted nq cards.new) }
+    ensures { ((name : List ℕ) → block_of name cards.new ≡ opened name) × ((nq : ℕ) → nq ≤ most_ordinates → Counted nq cards.new) }
 {
     let mut item: usize = 0;
     while item < records::RECORDS {

@@ -1,6 +1,6 @@
 // Decks from standard input, each behind its length in 4 bytes, the lowest first; their listings to standard output, each before a line '--'.
 ghost use Rattle.std.specs.Prelude.{◌+◌, ◌≤◌, length};
-ghost use Rattle.listing.specs.Sizes.{listingSize};
+ghost use Rattle.listing.specs.Sizes.{listing_size};
 
 use streams::Next;
 
@@ -8,7 +8,7 @@ use streams::Next;
 const ANSWER: usize = listing::LISTING + 3;
 
 fn put_listing(deck: &[u8], out: &mut [u8]) -> usize
-    requires { listingSize + 3 ≤ length out.old }
+    requires { listing_size + 3 ≤ length out.old }
     ensures { result ≤ length out.new }
 {
     let end = listing::list_deck(deck, &mut out[0..listing::LISTING]);

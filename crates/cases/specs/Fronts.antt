@@ -1,31 +1,31 @@
 -- What is printed, or counted, of the first few: what one more adds. And how long a number and an answer are.
 --     numbers_more                one more is printed
 --     left-zero, left_other       one more is looked at, which is zero or not
---     number_short, counts-short, refusal-short   a number has at most 20 digits
+--     number_short, counts_short, refusal_short   a number has at most 20 digits
 use Rattle.std.specs.Prelude.{◌≡◌, List, [], ◌∷◌, ◌++◌, ℕ, zero, suc, ◌+◌, ◌^◌, ◌≤◌, ◌<◌, length, get_or, take}
 use Rattle.std.proofs.Common.{sym, ◌∙◌, append-nil, append_assoc, add-zero, add-one, arith, length-append, eq-eqb, ne_eqb}
 use Rattle.meaning.specs.Words.{◌=?◌, if◌then◌else◌}
 use Rattle.meaning.specs.Run.{Accepted, Refused}
-use Rattle.meaning.specs.Listing.{refusedLine}
-use Rattle.text.specs.Digits.{whole-short}
-use Rattle.cases.specs.Sizes.{answerSize, ordinateSize}
-use Rattle.cases.specs.Text.{answerLine, number_at, numbersFrom, left}
+use Rattle.meaning.specs.Listing.{refused_line}
+use Rattle.text.specs.Digits.{whole_short}
+use Rattle.cases.specs.Sizes.{answer_size, ordinate_size}
+use Rattle.cases.specs.Text.{answer_line, number_at, numbers_from, left}
 
-numbers-next : (j i : ℕ) (xs : List ℕ) → i < length xs → numbersFrom j (take (suc i) xs) ≡ numbersFrom j (take i xs) ++ number_at (j + i) (get_or xs i 0)
+numbers-next : (j i : ℕ) (xs : List ℕ) → i < length xs → numbers_from j (take (suc i) xs) ≡ numbers_from j (take i xs) ++ number_at (j + i) (get_or xs i 0)
 numbers-next j i [] h = absurd (omega arith)
 numbers-next j zero (x ∷ xs) h = rw add-zero (append-nil (number_at j x))
 numbers-next j (suc i) (x ∷ xs) h =
     let place : suc j + i ≡ j + suc i = omega arith in
-    rw (numbers-next (suc j) i xs (omega arith), place) (sym (append_assoc (number_at j x) (numbersFrom (suc j) (take i xs)) (number_at (j + suc i) (get_or xs i 0))))
+    rw (numbers-next (suc j) i xs (omega arith), place) (sym (append_assoc (number_at j x) (numbers_from (suc j) (take i xs)) (number_at (j + suc i) (get_or xs i 0))))
 
-pub numbers_more : (i : ℕ) (xs : List ℕ) → i < length xs → numbersFrom 0 (take (i + 1) xs) ≡ numbersFrom 0 (take i xs) ++ number_at i (get_or xs i 0)
+pub numbers_more : (i : ℕ) (xs : List ℕ) → i < length xs → numbers_from 0 (take (i + 1) xs) ≡ numbers_from 0 (take i xs) ++ number_at i (get_or xs i 0)
 numbers_more i xs h =
     let first : 0 + i ≡ i = omega arith in
     rw (add-one i) (rw first at (numbers-next 0 i xs h))
 
-pub number_short : (i x : ℕ) → x < 10 ^ 20 → length (number_at i x) ≤ ordinateSize
-number_short zero x h = omega (arith, whole-short 19 x h)
-number_short (suc i) x h = omega (arith, whole-short 19 x h)
+pub number_short : (i x : ℕ) → x < 10 ^ 20 → length (number_at i x) ≤ ordinate_size
+number_short zero x h = omega (arith, whole_short 19 x h)
+number_short (suc i) x h = omega (arith, whole_short 19 x h)
 
 left-next : (i : ℕ) (xs : List ℕ) → i < length xs → left (take (suc i) xs) ≡ left (take i xs) + (if get_or xs i 0 =? 0 then 0 else 1)
 left-next i [] h = absurd (omega arith)
@@ -40,10 +40,10 @@ pub left_other : (i : ℕ) (xs : List ℕ) → i < length xs → 0 < get_or xs i
 unfolding if◌then◌else◌
 left_other i xs h some = rw (add-one i) (left-next i xs h ∙ rw (ne_eqb (get_or xs i 0) 0 (λ e. absurd (omega arith))))
 
-pub counts-short : (nq blocks ratios : ℕ) → nq < 10 ^ 20 → blocks < 10 ^ 20 → ratios < 10 ^ 20 → length (answerLine (Accepted nq blocks ratios)) ≤ answerSize
-unfolding answerLine
-counts-short nq blocks ratios h k l = simp length-append (omega (arith, whole-short 19 nq h, whole-short 19 blocks k, whole-short 19 ratios l))
+pub counts_short : (nq blocks ratios : ℕ) → nq < 10 ^ 20 → blocks < 10 ^ 20 → ratios < 10 ^ 20 → length (answer_line (Accepted nq blocks ratios)) ≤ answer_size
+unfolding answer_line
+counts_short nq blocks ratios h k l = simp length-append (omega (arith, whole_short 19 nq h, whole_short 19 blocks k, whole_short 19 ratios l))
 
-pub refusal-short : (number at : ℕ) → number < 10 ^ 20 → at < 10 ^ 20 → length (answerLine (Refused number at)) ≤ answerSize
-unfolding answerLine refusedLine
-refusal-short number at h k = simp length-append (omega (arith, whole-short 19 number h, whole-short 19 at k))
+pub refusal_short : (number at : ℕ) → number < 10 ^ 20 → at < 10 ^ 20 → length (answer_line (Refused number at)) ≤ answer_size
+unfolding answer_line refused_line
+refusal_short number at h k = simp length-append (omega (arith, whole_short 19 number h, whole_short 19 at k))

@@ -1,13 +1,13 @@
 // A case of the program `rooms`: what it says before its deck, and what is printed of it.
 ghost use Rattle.std.specs.Prelude.{◌≡◌, ◌+◌, ◌*◌, ◌≤◌, length};
 ghost use Rattle.meaning.specs.Run.{Accepted};
-ghost use Rattle.answers.specs.Answers.{answerIs, outcomeIs};
+ghost use Rattle.answers.specs.Answers.{answer_is, outcome_is};
 ghost use Rattle.text.specs.Line.{line};
 ghost use Rattle.text.specs.Written.{Written};
 ghost use Rattle.text.specs.Counted.{Counted};
 ghost use Rattle.cases.specs.Case.{case_of};
-ghost use Rattle.cases.specs.Sizes.{answerSize, ordinateSize, leftSize, caseSize};
-ghost use Rattle.cases.specs.Text.{answerLine, number_at, numbersFrom, left, leftLines, caseText};
+ghost use Rattle.cases.specs.Sizes.{answer_size, ordinate_size, left_size, case_size};
+ghost use Rattle.cases.specs.Text.{answer_line, number_at, numbers_from, left, left_lines, case_text};
 
 use answers::Answer;
 
@@ -48,8 +48,8 @@ pub fn read_case(b: &[u8]) -> Case
 
 // The line of an acceptance.
 fn write_counts(out: &mut [u8], ordinates: u64, blocks: u64, ratios: u64) -> usize
-    requires { answerSize ≤ length out.old }
-    ensures { Written out.old 0 (answerLine (Accepted ordinates blocks ratios)) out.new result }
+    requires { answer_size ≤ length out.old }
+    ensures { Written out.old 0 (answer_line (Accepted ordinates blocks ratios)) out.new result }
 {
     let second = text::write_whole(out, 0, ordinates);
     let third = text::write_number(out, second, blocks);
@@ -59,9 +59,9 @@ fn write_counts(out: &mut [u8], ordinates: u64, blocks: u64, ratios: u64) -> usi
 
 // The line of the answer.
 fn write_answer(out: &mut [u8], answer: Answer) -> usize
-    requires { answerSize ≤ length out.old }
-    ensures text { Written out.old 0 (answerLine (answerIs answer)) out.new result }
-    ensures short { result ≤ answerSize }
+    requires { answer_size ≤ length out.old }
+    ensures text { Written out.old 0 (answer_line (answer_is answer)) out.new result }
+    ensures short { result ≤ answer_size }
 {
     match answer {
         Answer::Accepted(ordinates, blocks, ratios) => {
@@ -73,7 +73,7 @@ fn write_answer(out: &mut [u8], answer: Answer) -> usize
 
 // A blank before each number but the first.
 fn write_ordinate(out: &mut [u8], at: usize, i: usize, x: u64) -> usize
-    requires { at + ordinateSize ≤ length out.old }
+    requires { at + ordinate_size ≤ length out.old }
     ensures { Written out.old at (number_at i x) out.new result }
 {
     if i == 0 {
@@ -84,9 +84,9 @@ fn write_ordinate(out: &mut [u8], at: usize, i: usize, x: u64) -> usize
 
 // The line of the ordinates.
 fn write_ordinates(out: &mut [u8], start: usize, ordinates: &[u64]) -> usize
-    requires { start + ordinateSize * length ordinates.now + 1 ≤ length out.old }
-    ensures text { Written out.old start (line (numbersFrom 0 ordinates.now)) out.new result }
-    ensures short { result ≤ start + ordinateSize * length ordinates.now + 1 }
+    requires { start + ordinate_size * length ordinates.now + 1 ≤ length out.old }
+    ensures text { Written out.old start (line (numbers_from 0 ordinates.now)) out.new result }
+    ensures short { result ≤ start + ordinate_size * length ordinates.now + 1 }
 {
     let mut at = start;
     let mut i = 0;
@@ -114,8 +114,8 @@ fn count_left(words: &[u64]) -> u64
 
 // The line of the count, and the last one.
 fn write_left(out: &mut [u8], at: usize, work: &[u64]) -> usize
-    requires { at + leftSize ≤ length out.old }
-    ensures { Written out.old at (leftLines work.now) out.new result }
+    requires { at + left_size ≤ length out.old }
+    ensures { Written out.old at (left_lines work.now) out.new result }
 {
     let end = text::write_whole(out, at, count_left(work));
     let mark = text::write_byte(out, end, b'\n');
@@ -130,8 +130,8 @@ pub fn write_case(
     ordinates: &[u64],
     records: &[u8],
 ) -> usize
-    requires { caseSize (length ordinates.now) (length records.now) ≤ length out.old }
-    ensures text { Written out.old 0 (caseText (outcomeIs answer work.now ordinates.now records.now)) out.new result }
+    requires { case_size (length ordinates.now) (length records.now) ≤ length out.old }
+    ensures text { Written out.old 0 (case_text (outcome_is answer work.now ordinates.now records.now)) out.new result }
     ensures counted { Counted result out.new }
 {
     let flows = write_answer(out, answer);

@@ -2,16 +2,16 @@
 use Rattle.std.specs.Prelude.{ℕ, ◌*◌}
 
 -- A comma, at most 20 digits, the point, six places.
-abbrev pub cellSize : ℕ
-cellSize = 28
+abbrev pub cell_size : ℕ
+cell_size = 28
 
 -- The three depths of an interval.
-abbrev pub depthsSize : ℕ
-depthsSize = cellSize * 3
+abbrev pub depths_size : ℕ
+depths_size = cell_size * 3
 
 -- A depth of 1,666 inches and two thirds, far above any rain; and the largest unit ordinate of a card.
-abbrev pub mostDepth : ℕ
-mostDepth = 1_000_000_000
+abbrev pub most_depth : ℕ
+most_depth = 1_000_000_000
 
-abbrev pub mostUnit : ℕ
-mostUnit = 9_999_999
+abbrev pub most_unit : ℕ
+most_unit = 9_999_999

@@ -1,7 +1,7 @@
 // The columns of a runoff block's hand sheet: the rain, the loss and the excess of each interval, and the sums by ordinate.
 ghost use Rattle.std.specs.Prelude.{◌≡◌, List, ℕ, ◌-◌, ◌≤◌, length, get_or};
 ghost use Rattle.meaning.specs.Water.{list_from};
-ghost use Rattle.blocks.specs.Meant.{timeIs};
+ghost use Rattle.blocks.specs.Meant.{time_is};
 ghost use Rattle.blocks.specs.Cards.{block_of};
 ghost use Rattle.shaping.specs.Limits.{Read};
 ghost use Rattle.columns.specs.Columns.{ColumnsAre};
@@ -32,9 +32,9 @@ pub fn fill_columns(
     time: Time,
     cards: &[u64],
 )
-    requires read { Read (timeIs time) cards.now }
+    requires read { Read (time_is time) cards.now }
     requires rains_len { (length rains.old ≡ time.ordinates) × (length losses.old ≡ time.ordinates) × (length excesses.old ≡ time.ordinates) × (length sums.old ≡ time.ordinates) }
-    ensures { (name : List ℕ) → ColumnsAre (timeIs time) (block_of name cards.now) rains.new losses.new excesses.new sums.new }
+    ensures { (name : List ℕ) → ColumnsAre (time_is time) (block_of name cards.now) rains.new losses.new excesses.new sums.new }
 {
     let storm = making::storm_of(time, cards);
     let units = blocks::values(cards, records::UI);

@@ -1,8 +1,8 @@
 -- Two outcomes of a run that meet its contract, as its `ensures` line has it, are equal: the answer and every word and byte lent.
 use mathlib.Core.Path.{◌≡◌, sym, ap, ◌∙◌}
 use Rattle.meaning.specs.Run.{Outcome}
-use Rattle.sequences.specs.Contracts.{Once}
-use Rattle.blocks.specs.Meant.{ratiosIs}
+use Rattle.sequences.specs.OneOutcome.{Once}
+use Rattle.blocks.specs.Meant.{ratios_is}
 use Rattle.answers.specs.Answers.{answer-told}
 use Rattle.engine.proofs.run.Kinds as run
 use Rattle.engine.proofs.run.Reads as run-says
@@ -20,7 +20,7 @@ run-once κs a x y e f p q =
 -- and the ratios, as the list that they mean
 pub run-listed-once : Once run-listed.ps run-listed.r run-listed-says.Post
     (λ κs x y e f.
-    (x.answer ≡ y.answer) × (ratiosIs x.ratios ≡ ratiosIs y.ratios) × (e.1.1.1.0.now ≡ f.1.1.1.0.now) × (e.1.1.1.1.0.now ≡ f.1.1.1.1.0.now)
+    (x.answer ≡ y.answer) × (ratios_is x.ratios ≡ ratios_is y.ratios) × (e.1.1.1.0.now ≡ f.1.1.1.0.now) × (e.1.1.1.1.0.now ≡ f.1.1.1.1.0.now)
     × (e.1.1.1.1.1.0.now ≡ f.1.1.1.1.1.0.now))
 run-listed-once κs a x y e f p q =
     let same = p.0 ∙ sym q.0 in (

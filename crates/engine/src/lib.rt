@@ -1,8 +1,8 @@
 // The run: the sizes looked at, the deck walked under every ratio, and what comes back.
 ghost use Rattle.std.specs.Prelude.{◌≡◌, [], ◌≤◌, length};
 ghost use Rattle.meaning.specs.Run.{refused, outcome};
-ghost use Rattle.blocks.specs.Meant.{ratiosIs};
-ghost use Rattle.answers.specs.Answers.{outcomeIs, lent_as};
+ghost use Rattle.blocks.specs.Meant.{ratios_is};
+ghost use Rattle.answers.specs.Answers.{outcome_is, lent_as};
 ghost use Rattle.engine.specs.Outcomes.{listed_of};
 
 use answers::Answer;
@@ -24,8 +24,8 @@ fn refuse(
     ordinates: &mut [u64],
     records: &mut [u8],
 ) -> Ran
-    ensures records_after { outcomeIs result.answer work.new ordinates.new records.new ≡ refused number line (lent_as work.old ordinates.old records.old) }
-    ensures none { (ratiosIs result.ratios ≡ []) × (result.ratios.count ≤ 9) }
+    ensures records_after { outcome_is result.answer work.new ordinates.new records.new ≡ refused number line (lent_as work.old ordinates.old records.old) }
+    ensures none { (ratios_is result.ratios ≡ []) × (result.ratios.count ≤ 9) }
 {
     let answer = answers::refuse(number, line, work, ordinates, records);
     let ratios = blocks::no_ratios();
@@ -41,8 +41,8 @@ pub fn run_listed(
     ordinates: &mut [u64],
     records: &mut [u8],
 ) -> Ran
-    ensures records_after { outcomeIs result.answer work.new ordinates.new records.new ≡ outcome deck.now named ratio (lent_as work.old ordinates.old records.old) }
-    ensures listed { (ratiosIs result.ratios ≡ listed_of deck.now (length work.old)) × (result.ratios.count ≤ 9) }
+    ensures records_after { outcome_is result.answer work.new ordinates.new records.new ≡ outcome deck.now named ratio (lent_as work.old ordinates.old records.old) }
+    ensures listed { (ratios_is result.ratios ≡ listed_of deck.now (length work.old)) × (result.ratios.count ≤ 9) }
 {
     let refusal = answers::size_refusal(work.len(), deck.len());
     if refusal != 0 {
@@ -83,7 +83,7 @@ pub fn run(
     ordinates: &mut [u64],
     records: &mut [u8],
 ) -> Answer
-    ensures { outcomeIs result work.new ordinates.new records.new ≡ outcome deck.now named ratio (lent_as work.old ordinates.old records.old) }
+    ensures { outcome_is result work.new ordinates.new records.new ≡ outcome deck.now named ratio (lent_as work.old ordinates.old records.old) }
 {
     let ran = run_listed(deck, named, ratio, work, ordinates, records);
     let answer = ran.answer;

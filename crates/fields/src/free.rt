@@ -1,12 +1,12 @@
 // Free form: where a value ends, and what separates it from the next.
 ghost use Rattle.std.specs.Prelude.{◌≡◌};
-ghost use Rattle.fields.specs.Spans.{valueEnd, gapEnd};
+ghost use Rattle.fields.specs.Spans.{value_end, gap_end};
 
 use super::past_blanks;
 
 // The first blank or comma from `at` on, or the end.
 pub fn value_end(l: &[u8], at: usize) -> usize
-    ensures { result ≡ valueEnd l.now at }
+    ensures { result ≡ value_end l.now at }
 {
     let mut i = at;
     while i < l.len() {
@@ -24,7 +24,7 @@ pub fn value_end(l: &[u8], at: usize) -> usize
 
 // Past what separates two values: blanks, one comma at most, blanks.
 pub fn past_gap(l: &[u8], at: usize) -> usize
-    ensures { result ≡ gapEnd l.now at }
+    ensures { result ≡ gap_end l.now at }
 {
     let i = past_blanks(l, at);
     if i < l.len() {

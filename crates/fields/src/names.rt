@@ -1,15 +1,15 @@
 // The name on a KK line: the line's first field, and whether it is one.
 ghost use Rattle.std.specs.Prelude.{◌≡◌, ◌≤◌, length};
-ghost use Rattle.meaning.specs.Records.{anyBlank, badName};
+ghost use Rattle.meaning.specs.Records.{any_blank, bad_name};
 ghost use Rattle.fields.specs.Spans.{form_of};
-ghost use Rattle.fields.specs.Names.{nameSpan};
+ghost use Rattle.fields.specs.Names.{name_span};
 
 use super::Span;
 
 // Where the name stands; a line that ends before its first field has none.
 pub fn name_span(free: bool, l: &[u8]) -> Span
     requires { length l.now ≤ 80 }
-    ensures { result ≡ nameSpan (form_of free) l.now }
+    ensures { result ≡ name_span (form_of free) l.now }
 {
     let c = super::first_place(free, l);
     if l.len() <= c {
@@ -23,7 +23,7 @@ pub fn name_span(free: bool, l: &[u8]) -> Span
 }
 
 fn has_blank(name: &[u8]) -> bool
-    ensures { result ≡ anyBlank name.now }
+    ensures { result ≡ any_blank name.now }
 {
     let mut i = 0;
     while i < name.len() {
@@ -38,7 +38,7 @@ fn has_blank(name: &[u8]) -> bool
 
 // A name has 1 to 6 bytes and no blank among them.
 pub fn bad_name(name: &[u8]) -> bool
-    ensures { result ≡ badName name.now }
+    ensures { result ≡ bad_name name.now }
 {
     if name.len() < 1 {
         return true;

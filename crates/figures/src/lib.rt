@@ -1,9 +1,9 @@
 // A record in print: one line, of its name and its figures. What is written stands from a place on, and the answer is the place behind it.
 ghost use Rattle.std.specs.Prelude.{◌≡◌, ◌+◌, ◌≤◌, length};
-ghost use Rattle.meaning.specs.Results.{recordSize};
+ghost use Rattle.meaning.specs.Results.{record_size};
 ghost use Rattle.meaning.specs.Listing.{rounded};
 ghost use Rattle.text.specs.Written.{Written};
-ghost use Rattle.figures.specs.Line.{figuresOf, figuresText, line_of};
+ghost use Rattle.figures.specs.Line.{figures_of, figures_text, line_of};
 
 // A flow in hundredths of a cfs, half up: one more where half of one or more is left.
 fn round_flow(flow: u64) -> u64
@@ -23,8 +23,8 @@ struct Figures {
 }
 
 fn read_figures(from: &[u8]) -> Figures
-    requires { length from.now ≡ recordSize }
-    ensures { result ≡ figuresOf from.now }
+    requires { length from.now ≡ record_size }
+    ensures { result ≡ figures_of from.now }
 {
     Figures {
         kind: slices::read_le(&from[6..7]),
@@ -37,8 +37,8 @@ fn read_figures(from: &[u8]) -> Figures
 
 // A line behind its name.
 fn write_figures(out: &mut [u8], at: usize, f: Figures) -> usize
-    requires { at + length (figuresText f) ≤ length out.old }
-    ensures { Written out.old at (figuresText f) out.new result }
+    requires { at + length (figures_text f) ≤ length out.old }
+    ensures { Written out.old at (figures_text f) out.new result }
 {
     let kind = text::write_number(out, at, f.kind);
     let area = text::write_amount(out, kind, f.area);
@@ -50,7 +50,7 @@ fn write_figures(out: &mut [u8], at: usize, f: Figures) -> usize
 
 // The line of one record.
 pub fn write_line(out: &mut [u8], at: usize, from: &[u8]) -> usize
-    requires { (length from.now ≡ recordSize) × (at + length (line_of from.now) ≤ length out.old) }
+    requires { (length from.now ≡ record_size) × (at + length (line_of from.now) ≤ length out.old) }
     ensures { Written out.old at (line_of from.now) out.new result }
 {
     let next = text::write_text(out, at, text::trim_blanks(&from[0..6]));

@@ -1,15 +1,15 @@
 -- Files as the records that they are made of.
---     Sized                          records of so many bytes each; sized-map, sized-append: of records in another form, and of more records
+--     Sized                          records of so many bytes each; sized_map, sized_append: of records in another form, and of more records
 --     joined-append                  records and more records, as files
 --     length-joined, whole-joined    how many bytes records make, and that this is whole records
 --     records-joined, records-of     the records of a file that is made of records, and of what stands behind it
---     sized-records, joined-records  a file's records have the size, and make the file where it is whole
---     join-files                     two files one behind the other, of their records
+--     sized_records, joined-records  a file's records have the size, and make the file where it is whole
+--     join_files                     two files one behind the other, of their records
 use Rattle.std.specs.Prelude.{ℕ, zero, suc, ◌+◌, ◌*◌, ◌/◌, ◌%◌, ◌≤◌, ◌<◌, ◌≡◌, refl, List, [], ◌∷◌, ◌++◌, map, length, drop}
 use Rattle.std.proofs.Common.{sym, ap, ◌∙◌, append-nil, append_assoc, suc-mul, div-mul-le_self, arith, length-append, length-drop, take-append-drop, length-take-le, take_at, drop_at}
 use Rattle.std.proofs.Math.Nat.{div-add-mod', mul-mod_left}
-use Rattle.meaning.specs.Moving.{recordsFrom, recordsIn, joined}
-use Rattle.moving.specs.Records.{first-record, no_record}
+use Rattle.meaning.specs.Moving.{records_from, records_in, joined}
+use Rattle.moving.specs.Records.{first_record, no_record}
 use Rattle.forms.specs.Forms.{Makes}
 
 abbrev pub Sized : (size : ℕ) → List (List ℕ) → Type 0
@@ -20,14 +20,14 @@ pub joined-append : (rs ss : List (List ℕ)) → joined (rs ++ ss) ≡ joined r
 joined-append [] ss = refl
 joined-append (r ∷ rs) ss = rw (joined-append rs ss) (sym (append_assoc r (joined rs) (joined ss)))
 
-pub sized-map : (form : List ℕ → List ℕ) (size to : ℕ) → Makes form size to → (rs : List (List ℕ)) → Sized size rs → Sized to (map form rs)
-sized-map form size to makes [] h = tt
-sized-map form size to makes (r ∷ rs) h = (makes r h.0, sized-map form size to makes rs h.1)
+pub sized_map : (form : List ℕ → List ℕ) (size to : ℕ) → Makes form size to → (rs : List (List ℕ)) → Sized size rs → Sized to (map form rs)
+sized_map form size to makes [] h = tt
+sized_map form size to makes (r ∷ rs) h = (makes r h.0, sized_map form size to makes rs h.1)
 
 module _ (size : ℕ) where
-  pub sized-append : (rs ss : List (List ℕ)) → Sized size rs → Sized size ss → Sized size (rs ++ ss)
-  sized-append [] ss h k = k
-  sized-append (r ∷ rs) ss h k = (h.0, sized-append rs ss h.1 k)
+  pub sized_append : (rs ss : List (List ℕ)) → Sized size rs → Sized size ss → Sized size (rs ++ ss)
+  sized_append [] ss h k = k
+  sized_append (r ∷ rs) ss h k = (h.0, sized_append rs ss h.1 k)
 
   pub length-joined : (rs : List (List ℕ)) → Sized size rs → length (joined rs) ≡ length rs * size
   length-joined [] h = omega arith
@@ -37,43 +37,43 @@ module _ (size : ℕ) where
   whole-joined rs h = rw (length-joined rs h) (mul-mod_left (length rs) size)
 
   module _ (some : 0 < size) where
-    pub records-joined : (rs : List (List ℕ)) (b : List ℕ) → Sized size rs → recordsIn size (joined rs ++ b) ≡ rs ++ recordsIn size b
+    pub records-joined : (rs : List (List ℕ)) (b : List ℕ) → Sized size rs → records_in size (joined rs ++ b) ≡ rs ++ records_in size b
     records-joined [] b h = refl
     records-joined (r ∷ rs) b h =
         let long : size ≤ length (r ++ (joined rs ++ b)) = simp length-append (omega (arith, h.0)) in
         rw (
           append_assoc r (joined rs) b,
-          first-record size (r ++ (joined rs ++ b)) some long,
+          first_record size (r ++ (joined rs ++ b)) some long,
           take_at r (joined rs ++ b) size h.0,
           drop_at r (joined rs ++ b) size h.0,
           records-joined rs b h.1,
         )
 
-    pub records-of : (rs : List (List ℕ)) → Sized size rs → recordsIn size (joined rs) ≡ rs
+    pub records-of : (rs : List (List ℕ)) → Sized size rs → records_in size (joined rs) ≡ rs
     records-of rs h =
-        ap (recordsIn size) (sym (append-nil (joined rs))) ∙ records-joined rs [] h ∙ ap (λ (l : List (List ℕ)). rs ++ l) (no_record size [] some) ∙ append-nil rs
+        ap (records_in size) (sym (append-nil (joined rs))) ∙ records-joined rs [] h ∙ ap (λ (l : List (List ℕ)). rs ++ l) (no_record size [] some) ∙ append-nil rs
 
-  sized-from : (count : ℕ) (file : List ℕ) → count * size ≤ length file → Sized size (recordsFrom size count file)
-  sized-from zero file enough = tt
-  sized-from (suc count) file enough =
+  sized_from : (count : ℕ) (file : List ℕ) → count * size ≤ length file → Sized size (records_from size count file)
+  sized_from zero file enough = tt
+  sized_from (suc count) file enough =
       let apart : size + count * size ≤ length file = omega (arith, suc-mul count size) in
       let left : count * size ≤ length (drop size file) = simp length-drop (omega arith) in
-      (length-take-le size file (omega arith), sized-from count (drop size file) left)
+      (length-take-le size file (omega arith), sized_from count (drop size file) left)
 
-  joined-from : (count : ℕ) (file : List ℕ) → count * size ≡ length file → joined (recordsFrom size count file) ≡ file
-  joined-from zero [] all = refl
-  joined-from zero (b ∷ file) all = absurd (omega arith)
-  joined-from (suc count) file all =
+  joined_from : (count : ℕ) (file : List ℕ) → count * size ≡ length file → joined (records_from size count file) ≡ file
+  joined_from zero [] all = refl
+  joined_from zero (b ∷ file) all = absurd (omega arith)
+  joined_from (suc count) file all =
       let left : count * size ≡ length (drop size file) = simp length-drop (omega (arith, suc-mul count size)) in
-      rw (joined-from count (drop size file) left) (take-append-drop size file)
+      rw (joined_from count (drop size file) left) (take-append-drop size file)
 
-  pub sized-records : (file : List ℕ) → Sized size (recordsIn size file)
-  unfolding recordsIn
-  sized-records file = sized-from (length file / size) file (div-mul-le_self (length file) size)
+  pub sized_records : (file : List ℕ) → Sized size (records_in size file)
+  unfolding records_in
+  sized_records file = sized_from (length file / size) file (div-mul-le_self (length file) size)
 
-  pub joined-records : (file : List ℕ) → length file % size ≡ 0 → joined (recordsIn size file) ≡ file
-  unfolding recordsIn
-  joined-records file whole = joined-from (length file / size) file (omega (arith, div-add-mod' (length file) size))
+  pub joined-records : (file : List ℕ) → length file % size ≡ 0 → joined (records_in size file) ≡ file
+  unfolding records_in
+  joined-records file whole = joined_from (length file / size) file (omega (arith, div-add-mod' (length file) size))
 
-  pub join-files : (a b : List ℕ) → length a % size ≡ 0 → length b % size ≡ 0 → a ++ b ≡ joined (recordsIn size a ++ recordsIn size b)
-  join-files a b ha hb = sym (joined-append (recordsIn size a) (recordsIn size b) ∙ rw (joined-records a ha, joined-records b hb))
+  pub join_files : (a b : List ℕ) → length a % size ≡ 0 → length b % size ≡ 0 → a ++ b ≡ joined (records_in size a ++ records_in size b)
+  join_files a b ha hb = sym (joined-append (records_in size a) (records_in size b) ∙ rw (joined-records a ha, joined-records b hb))

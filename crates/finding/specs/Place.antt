@@ -2,11 +2,11 @@
 --     block_at    its time control and its values; nowhere, where a line before is refused or none closes it
 --     FoundIs    what the code answers of it
 use Rattle.std.specs.Prelude.{ℕ, zero, suc, ◌≤◌, ◌≡◌, Bool, true, false, List, [], ◌∷◌}
-use Rattle.meaning.specs.Records.{mostOrdinates}
+use Rattle.meaning.specs.Records.{most_ordinates}
 use Rattle.meaning.specs.Blocks.{Time, Block}
 use Rattle.meaning.specs.Run as run
-use Rattle.meaning.specs.Run.{BeforeTime, BeforeBlocks, InBlock, Event, Refuse, Go, Open, End, readLine}
-use Rattle.blocks.specs.Meant.{timeIs, nameIs}
+use Rattle.meaning.specs.Run.{BeforeTime, BeforeBlocks, InBlock, Event, Refuse, Go, Open, End, read_line}
+use Rattle.blocks.specs.Meant.{time_is, name_is}
 use Rattle.blocks.specs.Cards.{block_of}
 use Rattle.placing.specs.declared.Phase.{Phase}
 use Rattle.placing.specs.declared.Phase.TheVariants as phase
@@ -25,26 +25,26 @@ closed_in (BeforeBlocks τ form) = Nowhere
 closed_in (InBlock τ form b) = At τ b
 
 -- So many KK are left before the line that closes it. What is held is not looked at.
-abbrev pub placeBy : Event → run.Reading → (left : ℕ) → (run.Reading → ℕ → Place) → Place
-placeBy (Refuse number) r left go = Nowhere
-placeBy (Go next) r left go = go next left
-placeBy (Open next) r zero go = closed_in r
-placeBy (Open next) r (suc left) go = go next left
-placeBy (End τ) r zero go = closed_in r
-placeBy (End τ) r (suc left) go = Nowhere
+abbrev pub place_by : Event → run.Reading → (left : ℕ) → (run.Reading → ℕ → Place) → Place
+place_by (Refuse number) r left go = Nowhere
+place_by (Go next) r left go = go next left
+place_by (Open next) r zero go = closed_in r
+place_by (Open next) r (suc left) go = go next left
+place_by (End τ) r zero go = closed_in r
+place_by (End τ) r (suc left) go = Nowhere
 
 -- Before the first KK so many are left as the block's number says, which is counted from 1.
 unfoldable pub block_at : List (List ℕ) → run.Reading → (left : ℕ) → Place
 block_at [] r left = Nowhere
-block_at (l ∷ ls) r left = placeBy (readLine r l) r left (λ (next : run.Reading) (n : ℕ). block_at ls next n)
+block_at (l ∷ ls) r left = place_by (read_line r l) r left (λ (next : run.Reading) (n : ℕ). block_at ls next n)
 
 -- THE CODE'S ANSWER. A block that is there: its values are in the cards, and all that was read is within the limits of the table.
 pub record BlockIs (τ : Time) (b : Block) (x : Found) (cards : List ℕ) : Type 0 where
   pub there : x.there ≡ true
-  pub time : timeIs x.time ≡ τ
-  pub block : block_of (nameIs x.name) cards ≡ b
+  pub time : time_is x.time ≡ τ
+  pub block : block_of (name_is x.name) cards ≡ b
   pub letters : x.name.letters ≤ 6
-  pub few-ordinates : x.time.ordinates ≤ mostOrdinates
+  pub few_ordinates : x.time.ordinates ≤ most_ordinates
   pub few-ratios : x.time.ratios.count ≤ 9
   pub read : Read τ cards
 
@@ -52,10 +52,10 @@ abbrev pub FoundIs : Place → Found → (cards : List ℕ) → Type 0
 FoundIs Nowhere x cards = x.there ≡ false
 FoundIs (At τ b) x cards = BlockIs τ b x cards
 
-abbrev pub isOpen : Phase → Bool
-isOpen phase.BeforeTime = false
-isOpen phase.BeforeBlocks = false
-isOpen phase.InBlock = true
+abbrev pub is_open : Phase → Bool
+is_open phase.BeforeTime = false
+is_open phase.BeforeBlocks = false
+is_open phase.InBlock = true
 
 abbrev pub found_at : Reading → (there : Bool) → Found
 found_at r there = record { there = there; time = r.time; name = r.name }

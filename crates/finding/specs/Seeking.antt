@@ -2,87 +2,87 @@
 --     Seeking        the block looked for from here on is the one looked for in the deck
 --     starts         where the search begins
 --     refused, missing       a line is refused, or none is left: the block is nowhere
---     kk-here, zz-here       the line that closes it
---     zz-before, goes_on     a line that closes one before it: the deck's end, or the next block
+--     kk_here, zz_here       the line that closes it
+--     zz_before, goes_on     a line that closes one before it: the deck's end, or the next block
 use Rattle.std.specs.Prelude.{ℕ, zero, suc, ◌+◌, ◌-◌, ◌≤◌, ◌≡◌, refl, false, List, [], ◌∷◌, length, drop}
 use Rattle.std.proofs.Common.{zero-le, sym, ap, ◌∙◌, subst, arith}
 use Rattle.meaning.specs.Lines.{lines_of}
 use Rattle.meaning.specs.Fields.{Form, Fixed}
 use Rattle.meaning.specs.Blocks.{Time, Block, opened}
 use Rattle.meaning.specs.Run as run
-use Rattle.meaning.specs.Run.{BeforeTime, InBlock, Event, Refuse, Go, Open, End, readLine}
+use Rattle.meaning.specs.Run.{BeforeTime, InBlock, Event, Refuse, Go, Open, End, read_line}
 use Rattle.events.specs.NextEvent as events
-use Rattle.events.specs.NextEvent.{Missing, Met, metBy, nextEvent}
+use Rattle.events.specs.NextEvent.{Missing, Met, met_by, next_event}
 use Rattle.events.specs.TimeControl.{Timed, FoundTimed, found-timed}
 use Rattle.limits.specs.Within.{ReadingWithin, EventWithin, FoundWithin, found_within}
 use Rattle.fields.specs.Spans.{form_of}
 use Rattle.blocks.specs.declared.Name.{Name}
-use Rattle.blocks.specs.Meant.{timeIs, nameIs}
+use Rattle.blocks.specs.Meant.{time_is, name_is}
 use Rattle.placing.specs.declared.Phase.{Phase}
 use Rattle.placing.specs.declared.Phase.TheVariants as phase
 use Rattle.placing.specs.declared.Reading.{Reading}
-use Rattle.placing.specs.Readings.{readingBy, readingIs, blockIs, openedIn, Ready, Begins, Opens}
-use Rattle.finding.specs.Place.{Place, Nowhere, closed_in, placeBy, block_at, FoundIs, isOpen, found_at}
+use Rattle.placing.specs.Readings.{reading_by, reading_is, block_is, opened_in, Ready, Begins, Opens}
+use Rattle.finding.specs.Place.{Place, Nowhere, closed_in, place_by, block_at, FoundIs, is_open, found_at}
 
 -- THE NEXT EVENT
-abbrev placeFound : events.Found → (left : ℕ) → Place
-placeFound (Missing r line) left = Nowhere
-placeFound (Met e r line rest) left = placeBy e r left (λ (next : run.Reading) (n : ℕ). block_at rest next n)
+abbrev place_found : events.Found → (left : ℕ) → Place
+place_found (Missing r line) left = Nowhere
+place_found (Met e r line rest) left = place_by e r left (λ (next : run.Reading) (n : ℕ). block_at rest next n)
 
 block-met : (e : Event) (r : run.Reading) (left line : ℕ) (ls : List (List ℕ)) (go : run.Reading → events.Found)
-    → ((next : run.Reading) → block_at ls next left ≡ placeFound (go next) left)
-    → placeBy e r left (λ (next : run.Reading) (n : ℕ). block_at ls next n) ≡ placeFound (metBy e r line ls go) left
+    → ((next : run.Reading) → block_at ls next left ≡ place_found (go next) left)
+    → place_by e r left (λ (next : run.Reading) (n : ℕ). block_at ls next n) ≡ place_found (met_by e r line ls go) left
 block-met (Refuse number) r left line ls go ih = refl
 block-met (Go next) r left line ls go ih = ih next
 block-met (Open next) r left line ls go ih = refl
 block-met (End τ) r left line ls go ih = refl
 
-block-found : (ls : List (List ℕ)) (r : run.Reading) (left line : ℕ) → block_at ls r left ≡ placeFound (nextEvent ls r line) left
-unfolding block_at nextEvent
+block-found : (ls : List (List ℕ)) (r : run.Reading) (left line : ℕ) → block_at ls r left ≡ place_found (next_event ls r line) left
+unfolding block_at next_event
 block-found [] r left line = refl
 block-found (l ∷ ls) r left line =
-    block-met (readLine r l) r left line ls (λ (next : run.Reading). nextEvent ls next (line + 1)) (λ (next : run.Reading). block-found ls next left (line + 1))
+    block-met (read_line r l) r left line ls (λ (next : run.Reading). next_event ls next (line + 1)) (λ (next : run.Reading). block-found ls next left (line + 1))
 
 -- A LINE THAT CLOSES A BLOCK BEFORE IT: behind a KK the search goes on with one KK less, at the ZZ it ends
-kk-later : (left : ℕ) (next r : run.Reading) (rest : List (List ℕ)) → (left ≡ 0 → ⊥)
-    → placeBy (Open next) r left (λ (next : run.Reading) (n : ℕ). block_at rest next n) ≡ block_at rest next (left - 1)
-kk-later zero next r rest some = absurd (some refl)
-kk-later (suc left) next r rest some = let e : suc left - 1 ≡ left = omega arith in ap (block_at rest next) (sym e)
+kk_later : (left : ℕ) (next r : run.Reading) (rest : List (List ℕ)) → (left ≡ 0 → ⊥)
+    → place_by (Open next) r left (λ (next : run.Reading) (n : ℕ). block_at rest next n) ≡ block_at rest next (left - 1)
+kk_later zero next r rest some = absurd (some refl)
+kk_later (suc left) next r rest some = let e : suc left - 1 ≡ left = omega arith in ap (block_at rest next) (sym e)
 
-zz-later : (left : ℕ) (τ : Time) (r : run.Reading) (go : run.Reading → ℕ → Place) → (left ≡ 0 → ⊥) → placeBy (End τ) r left go ≡ Nowhere
-zz-later zero τ r go some = absurd (some refl)
-zz-later (suc left) τ r go some = refl
+zz_later : (left : ℕ) (τ : Time) (r : run.Reading) (go : run.Reading → ℕ → Place) → (left ≡ 0 → ⊥) → place_by (End τ) r left go ≡ Nowhere
+zz_later zero τ r go some = absurd (some refl)
+zz_later (suc left) τ r go some = refl
 
 -- A BLOCK THAT CLOSES, by the phase of the reading
-closed-by : (p : Phase) (r : Reading) (cards : List ℕ) → Ready r cards → ReadingWithin (readingBy p (timeIs r.time) (form_of r.free) (blockIs r cards))
-    → FoundIs (closed_in (readingBy p (timeIs r.time) (form_of r.free) (blockIs r cards))) (found_at r (isOpen p)) cards
-closed-by phase.BeforeTime r cards ready within = refl
-closed-by phase.BeforeBlocks r cards ready within = refl
-closed-by phase.InBlock r cards ready within =
+closed_by : (p : Phase) (r : Reading) (cards : List ℕ) → Ready r cards → ReadingWithin (reading_by p (time_is r.time) (form_of r.free) (block_is r cards))
+    → FoundIs (closed_in (reading_by p (time_is r.time) (form_of r.free) (block_is r cards))) (found_at r (is_open p)) cards
+closed_by phase.BeforeTime r cards ready within = refl
+closed_by phase.BeforeBlocks r cards ready within = refl
+closed_by phase.InBlock r cards ready within =
     record {
       there = refl;
       time = refl;
       block = refl;
       letters = ready.short-name;
-      few-ordinates = ready.few-ordinates;
+      few_ordinates = ready.few-ordinates;
       few-ratios = ready.few-ratios;
       read = record { time = within.0; words = ready.readable; cards = within.1.cards };
     }
 
 -- after IT a block is opened under the time control and in the form that the reading's struct says
-opened-by : (p : Phase) (τ : Time) (form : Form) (b : Block) (name : List ℕ) → Timed (readingBy p τ form b)
-    → InBlock τ form (opened name) ≡ openedIn (readingBy p τ form b) name
-opened-by phase.BeforeTime τ form b name h = absurd h
-opened-by phase.BeforeBlocks τ form b name h = refl
-opened-by phase.InBlock τ form b name h = refl
+opened_by : (p : Phase) (τ : Time) (form : Form) (b : Block) (name : List ℕ) → Timed (reading_by p τ form b)
+    → InBlock τ form (opened name) ≡ opened_in (reading_by p τ form b) name
+opened_by phase.BeforeTime τ form b name h = absurd h
+opened_by phase.BeforeBlocks τ form b name h = refl
+opened_by phase.InBlock τ form b name h = refl
 
 -- BETWEEN TWO BLOCKS
 pub record Seeking (deck : List ℕ) (sought : Place) (r : Reading) (at line left : ℕ) (cards : List ℕ) : Type 0 where
   pub up : at ≤ length deck
   pub counted : line ≤ at
   pub ready : Ready r cards
-  pub within : ReadingWithin (readingIs r cards)
-  pub goes : block_at (lines_of (drop at deck)) (readingIs r cards) left ≡ sought
+  pub within : ReadingWithin (reading_is r cards)
+  pub goes : block_at (lines_of (drop at deck)) (reading_is r cards) left ≡ sought
 
 pub starts : (deck : List ℕ) (number : ℕ) (r : Reading) (cards : List ℕ) → Begins r cards → Seeking deck (block_at (lines_of deck) (BeforeTime Fixed) number) r 0 0 number cards
 starts deck number r cards b = record { up = zero-le; counted = zero-le; ready = b.ready; within = rw b.is tt; goes = rw b.is refl }
@@ -92,48 +92,48 @@ module _ {deck : List ℕ} {sought : Place} {r : Reading} {at line left : ℕ} {
   lines = lines_of (drop at deck)
 
   abbrev next : events.Found
-  next = nextEvent lines (readingIs r cards) (line + 1)
+  next = next_event lines (reading_is r cards) (line + 1)
 
-  sought-by : (f : events.Found) → next ≡ f → sought ≡ placeFound f left
-  sought-by f e = sym g.goes ∙ block-found lines (readingIs r cards) left (line + 1) ∙ ap (λ (f : events.Found). placeFound f left) e
+  sought_by : (f : events.Found) → next ≡ f → sought ≡ place_found f left
+  sought_by f e = sym g.goes ∙ block-found lines (reading_is r cards) left (line + 1) ∙ ap (λ (f : events.Found). place_found f left) e
 
   nowhere : (q : Reading) (cards' : List ℕ) → sought ≡ Nowhere → FoundIs sought (found_at q false) cards'
   nowhere q cards' e = subst (λ (p : Place). FoundIs p (found_at q false) cards') (sym e) refl
 
   pub refused : {number last : ℕ} {p : run.Reading} {rest : List (List ℕ)} (q : Reading) (cards' : List ℕ) → next ≡ Met (Refuse number) p last rest
       → FoundIs sought (found_at q false) cards'
-  refused q cards' e = nowhere q cards' (sought-by _ e)
+  refused q cards' e = nowhere q cards' (sought_by _ e)
 
   pub missing : {p : run.Reading} {last : ℕ} (q : Reading) (cards' : List ℕ) → next ≡ Missing p last → FoundIs sought (found_at q false) cards'
-  missing q cards' e = nowhere q cards' (sought-by _ e)
+  missing q cards' e = nowhere q cards' (sought_by _ e)
 
   -- KK or ZZ: where the reading stood before its line
   module _ {q : Reading} {cards' : List ℕ} {last : ℕ} {rest : List (List ℕ)} (ready : Ready q cards') where
-    limits : (e : Event) → next ≡ Met e (readingIs q cards') last rest → EventWithin e × ReadingWithin (readingIs q cards')
-    limits e found = subst FoundWithin found (found_within lines (readingIs r cards) (line + 1) g.within)
+    limits : (e : Event) → next ≡ Met e (reading_is q cards') last rest → EventWithin e × ReadingWithin (reading_is q cards')
+    limits e found = subst FoundWithin found (found_within lines (reading_is r cards) (line + 1) g.within)
 
-    here : (e : Event) → next ≡ Met e (readingIs q cards') last rest → sought ≡ closed_in (readingIs q cards') → FoundIs sought (found_at q (isOpen q.phase)) cards'
+    here : (e : Event) → next ≡ Met e (reading_is q cards') last rest → sought ≡ closed_in (reading_is q cards') → FoundIs sought (found_at q (is_open q.phase)) cards'
     here e found closed =
-        subst (λ (p : Place). FoundIs p (found_at q (isOpen q.phase)) cards') (sym closed) (closed-by q.phase q cards' ready (limits e found).1)
+        subst (λ (p : Place). FoundIs p (found_at q (is_open q.phase)) cards') (sym closed) (closed_by q.phase q cards' ready (limits e found).1)
 
-    pub kk-here : {opens : run.Reading} → next ≡ Met (Open opens) (readingIs q cards') last rest → left ≡ 0 → FoundIs sought (found_at q (isOpen q.phase)) cards'
-    kk-here {opens} found none = here (Open opens) found (sought-by _ found ∙ rw none)
+    pub kk_here : {opens : run.Reading} → next ≡ Met (Open opens) (reading_is q cards') last rest → left ≡ 0 → FoundIs sought (found_at q (is_open q.phase)) cards'
+    kk_here {opens} found none = here (Open opens) found (sought_by _ found ∙ rw none)
 
-    pub zz-here : {τ : Time} → next ≡ Met (End τ) (readingIs q cards') last rest → left ≡ 0 → FoundIs sought (found_at q (isOpen q.phase)) cards'
-    zz-here {τ} found none = here (End τ) found (sought-by _ found ∙ rw none)
+    pub zz_here : {τ : Time} → next ≡ Met (End τ) (reading_is q cards') last rest → left ≡ 0 → FoundIs sought (found_at q (is_open q.phase)) cards'
+    zz_here {τ} found none = here (End τ) found (sought_by _ found ∙ rw none)
 
-    pub zz-before : {τ : Time} → next ≡ Met (End τ) (readingIs q cards') last rest → (left ≡ 0 → ⊥) → FoundIs sought (found_at q false) cards'
-    zz-before {τ} found some = nowhere q cards' (sought-by _ found ∙ zz-later left τ (readingIs q cards') _ some)
+    pub zz_before : {τ : Time} → next ≡ Met (End τ) (reading_is q cards') last rest → (left ≡ 0 → ⊥) → FoundIs sought (found_at q false) cards'
+    zz_before {τ} found some = nowhere q cards' (sought_by _ found ∙ zz_later left τ (reading_is q cards') _ some)
 
-    pub goes_on : (name : Name) (at' : ℕ) {x : Reading} {cards'' : List ℕ} → next ≡ Met (Open (openedIn (readingIs q cards') (nameIs name))) (readingIs q cards') last rest
+    pub goes_on : (name : Name) (at' : ℕ) {x : Reading} {cards'' : List ℕ} → next ≡ Met (Open (opened_in (reading_is q cards') (name_is name))) (reading_is q cards') last rest
         → rest ≡ lines_of (drop at' deck) → at' ≤ length deck → last ≤ at' → (left ≡ 0 → ⊥) → Opens q name x cards'' → Seeking deck sought x at' last (left - 1) cards''
     goes_on name at' found behind up counted some opens =
-        let after-it = (subst FoundTimed found (found-timed lines (readingIs r cards) (line + 1))).0 in
-        let same = opens.is ∙ opened-by q.phase (timeIs q.time) (form_of q.free) (blockIs q cards') (nameIs name) after-it in
+        let after_it = (subst FoundTimed found (found-timed lines (reading_is r cards) (line + 1))).0 in
+        let same = opens.is ∙ opened_by q.phase (time_is q.time) (form_of q.free) (block_is q cards') (name_is name) after_it in
         record {
           up = up;
           counted = counted;
           ready = opens.ready;
           within = rw same (limits _ found).0;
-          goes = rw (same, ← behind) (sym (kk-later left _ (readingIs q cards') rest some) ∙ sym (sought-by _ found));
+          goes = rw (same, ← behind) (sym (kk_later left _ (reading_is q cards') rest some) ∙ sym (sought_by _ found));
         }

@@ -5,7 +5,7 @@ ghost use Rattle.meaning.specs.Fields.{Fixed};
 ghost use Rattle.meaning.specs.Records.{table};
 ghost use Rattle.meaning.specs.Run.{BeforeTime};
 ghost use Rattle.records.specs.Rows.{words_of};
-ghost use Rattle.finding.specs.Place.{block_at, FoundIs, isOpen, found_at};
+ghost use Rattle.finding.specs.Place.{block_at, FoundIs, is_open, found_at};
 
 use blocks::{Name, Time};
 use placing::{Phase, Reading};
@@ -21,7 +21,7 @@ pub struct Found {
 
 // Whether a block is open where the reading stands.
 fn is_open(r: Reading) -> bool
-    ensures { result ≡ isOpen r.phase }
+    ensures { result ≡ is_open r.phase }
 {
     let phase = r.phase;
     match phase {

@@ -2,18 +2,18 @@
 use Rattle.std.specs.Prelude.{ℕ, Bool, false, ◌&&◌, List, [], ◌∷◌, ◌++◌, length}
 use Prim.Native.Char.{code}
 use Rattle.meaning.specs.Words.{◌=?◌, ◌≤?◌, if◌then◌else◌}
-use Rattle.meaning.specs.Numbers.{Number, NoNumber, Decimal, unsigned, beforePoint, behindPoint, allDigits, read_on}
+use Rattle.meaning.specs.Numbers.{Number, NoNumber, Decimal, unsigned, before_point, behind_point, all_digits, read_on}
 
 -- A number has an optional sign, digits and at most one point, one digit at least and nine at most. Places are counted as written.
 -- (A second point stays among what is behind the first, and is no digit.)
-unfoldable pub formerDecimal : Bool → List ℕ → Number
-formerDecimal minus s =
-    let digits = beforePoint s ++ behindPoint s in
-    if allDigits digits && (1 ≤? length digits) && (length digits ≤? 9)
-    then Decimal minus (read_on 0 digits) (length (behindPoint s))
+unfoldable pub former_decimal : Bool → List ℕ → Number
+former_decimal minus s =
+    let digits = before_point s ++ behind_point s in
+    if all_digits digits && (1 ≤? length digits) && (length digits ≤? 9)
+    then Decimal minus (read_on 0 digits) (length (behind_point s))
     else NoNumber
 
 -- A blank field reads as 0.
-unfoldable pub formerNumber : List ℕ → Number
-formerNumber [] = Decimal false 0 0
-formerNumber (b ∷ s) = formerDecimal (b =? code "-") (unsigned (b ∷ s))
+unfoldable pub former_number : List ℕ → Number
+former_number [] = Decimal false 0 0
+former_number (b ∷ s) = former_decimal (b =? code "-") (unsigned (b ∷ s))

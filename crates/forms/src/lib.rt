@@ -1,9 +1,9 @@
 // A record in its two forms: what it is refused for, and how it is written in the other form.
 ghost use Rattle.std.specs.Prelude.{◌≡◌, ◌++◌, ◌≤◌, length, take, drop};
-ghost use Rattle.meaning.specs.Results.{recordSize, oldRecordSize};
-ghost use Rattle.meaning.specs.Moving.{oldPadding, newForm, oldForm, filled, otherRatio};
-ghost use Rattle.forms.specs.Tests.{tailPadding};
-ghost use Rattle.forms.specs.Fault.{faultOf};
+ghost use Rattle.meaning.specs.Results.{record_size, old_record_size};
+ghost use Rattle.meaning.specs.Moving.{old_padding, new_form, old_form, filled, other_ratio};
+ghost use Rattle.forms.specs.Tests.{tail_padding};
+ghost use Rattle.forms.specs.Fault.{fault_of};
 
 use results::{OLD, RECORD};
 
@@ -15,8 +15,8 @@ const WHOLE: u64 = 65_636;
 
 // Padding that is not zero, among the bytes that both forms have.
 pub fn is_filled(r: &[u8]) -> bool
-    requires { oldRecordSize ≤ length r.now }
-    ensures { result ≡ filled oldPadding r.now }
+    requires { old_record_size ≤ length r.now }
+    ensures { result ≡ filled old_padding r.now }
 {
     if r[7] != 0 {
         return true;
@@ -26,24 +26,24 @@ pub fn is_filled(r: &[u8]) -> bool
 
 // Padding that is not zero, behind the place.
 fn is_tail_filled(r: &[u8]) -> bool
-    requires { length r.now ≡ recordSize }
-    ensures { result ≡ filled tailPadding r.now }
+    requires { length r.now ≡ record_size }
+    ensures { result ≡ filled tail_padding r.now }
 {
     slices::read_le(&r[TAIL..RECORD]) != 0
 }
 
 // A ratio that is not 100, or a place that is not 1.
 fn is_other(r: &[u8]) -> bool
-    requires { length r.now ≡ recordSize }
-    ensures { result ≡ otherRatio r.now }
+    requires { length r.now ≡ record_size }
+    ensures { result ≡ other_ratio r.now }
 {
     slices::read_le(&r[OLD..TAIL]) != WHOLE
 }
 
 // What one record of the new form is refused for.
 pub fn fault_of(r: &[u8]) -> u64
-    requires { length r.now ≡ recordSize }
-    ensures { result ≡ faultOf r.now }
+    requires { length r.now ≡ record_size }
+    ensures { result ≡ fault_of r.now }
 {
     if is_filled(r) {
         return 2;
@@ -59,8 +59,8 @@ pub fn fault_of(r: &[u8]) -> u64
 
 // The bytes that both forms have. Their number is a constant, so that they are moved in wide pieces.
 fn copy_old(to: &mut [u8], from: &[u8])
-    requires { (oldRecordSize ≤ length to.old) × (oldRecordSize ≤ length from.now) }
-    ensures { to.new ≡ take oldRecordSize from.now ++ drop oldRecordSize to.old }
+    requires { (old_record_size ≤ length to.old) × (old_record_size ≤ length from.now) }
+    ensures { to.new ≡ take old_record_size from.now ++ drop old_record_size to.old }
 {
     let mut i = 0;
     while i < OLD {
@@ -71,8 +71,8 @@ fn copy_old(to: &mut [u8], from: &[u8])
 
 // An old record in the new form: ratio 100, place 1 and zeros behind it.
 pub fn put_new(to: &mut [u8], from: &[u8])
-    requires { (length to.old ≡ recordSize) × (length from.now ≡ oldRecordSize) }
-    ensures { to.new ≡ newForm from.now }
+    requires { (length to.old ≡ record_size) × (length from.now ≡ old_record_size) }
+    ensures { to.new ≡ new_form from.now }
 {
     copy_old(to, from);
     slices::put_le(&mut to[OLD..TAIL], WHOLE);
@@ -81,8 +81,8 @@ pub fn put_new(to: &mut [u8], from: &[u8])
 
 // A new record in the old form.
 pub fn put_old(to: &mut [u8], from: &[u8])
-    requires { (length to.old ≡ oldRecordSize) × (length from.now ≡ recordSize) }
-    ensures { to.new ≡ oldForm from.now }
+    requires { (length to.old ≡ old_record_size) × (length from.now ≡ record_size) }
+    ensures { to.new ≡ old_form from.now }
 {
     copy_old(to, from);
 }

@@ -1,17 +1,17 @@
 -- How many bytes the hydrograph of any block takes at most, and the most minutes that an interval has.
 use Rattle.std.specs.Prelude.{ℕ, ◌+◌, ◌*◌}
-use Rattle.meaning.specs.Records.{mostOrdinates}
-use Rattle.cells.specs.Sizes.{cellSize}
+use Rattle.meaning.specs.Records.{most_ordinates}
+use Rattle.cells.specs.Sizes.{cell_size}
 
-abbrev pub mostMinutes : ℕ
-mostMinutes = 1_440
+abbrev pub most_minutes : ℕ
+most_minutes = 1_440
 
 -- The interval's number with the line's end, and three cells.
-abbrev pub lineSize : ℕ
-lineSize = cellSize * 4
+abbrev pub line_size : ℕ
+line_size = cell_size * 4
 
-abbrev pub headSize : ℕ
-headSize = 27
+abbrev pub head_size : ℕ
+head_size = 27
 
-abbrev pub hydrographSize : ℕ
-hydrographSize = headSize + lineSize * mostOrdinates
+abbrev pub hydrograph_size : ℕ
+hydrograph_size = head_size + line_size * most_ordinates

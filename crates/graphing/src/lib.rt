@@ -3,14 +3,14 @@
 ghost use Rattle.std.specs.Prelude.{◌≡◌, ◌+◌, ◌≤◌, ◌<◌, length};
 ghost use Rattle.meaning.specs.Lines.{lines_of};
 ghost use Rattle.meaning.specs.Fields.{Fixed};
-ghost use Rattle.meaning.specs.Records.{mostOrdinates};
+ghost use Rattle.meaning.specs.Records.{most_ordinates};
 ghost use Rattle.meaning.specs.Run.{BeforeTime};
-ghost use Rattle.meaning.specs.Hydrograph.{ordinateLine, hydrographText, hydrograph};
+ghost use Rattle.meaning.specs.Hydrograph.{ordinate_line, hydrograph_text, hydrograph};
 ghost use Rattle.text.specs.Written.{Written};
 ghost use Rattle.text.specs.Counted.{Counted};
 ghost use Rattle.finding.specs.Place.{block_at};
-ghost use Rattle.graphing.specs.Sizes.{mostMinutes, lineSize, hydrographSize};
-ghost use Rattle.graphing.specs.Texts.{minutesAt};
+ghost use Rattle.graphing.specs.Sizes.{most_minutes, line_size, hydrograph_size};
+ghost use Rattle.graphing.specs.Texts.{minutes_at};
 
 use answers::Answer;
 use cells::Measure;
@@ -21,8 +21,8 @@ pub const HYDROGRAPH: usize = 27 + (4 * cells::CELL) * ORDINATES;
 
 // The line of the ordinate that stands behind `i` others: its interval, the minutes at its end, its flow.
 fn write_ordinate(out: &mut [u8], at: usize, minutes: u64, i: u64, flow: u64) -> usize
-    requires { (minutes ≤ mostMinutes) × (i < mostOrdinates) × (at + lineSize ≤ length out.old) }
-    ensures { Written out.old at (ordinateLine minutes (i + 1) flow) out.new result }
+    requires { (minutes ≤ most_minutes) × (i < most_ordinates) × (at + line_size ≤ length out.old) }
+    ensures { Written out.old at (ordinate_line minutes (i + 1) flow) out.new result }
 {
     let interval = i + 1;
     let second = text::write_whole(out, at, interval);
@@ -34,8 +34,8 @@ fn write_ordinate(out: &mut [u8], at: usize, minutes: u64, i: u64, flow: u64) ->
 
 // The head, and the lines of all ordinates.
 fn write_hydrograph(out: &mut [u8], minutes: u64, flows: &[u64]) -> usize
-    requires { (minutes ≤ mostMinutes) × (length flows.now ≤ mostOrdinates) × (hydrographSize ≤ length out.old) }
-    ensures { Written out.old 0 (hydrographText minutes flows.now) out.new result }
+    requires { (minutes ≤ most_minutes) × (length flows.now ≤ most_ordinates) × (hydrograph_size ≤ length out.old) }
+    ensures { Written out.old 0 (hydrograph_text minutes flows.now) out.new result }
 {
     let mut at = text::write_text(out, 0, b"interval,minutes,cfs,units\n");
     let mut i = 0;
@@ -48,7 +48,7 @@ fn write_hydrograph(out: &mut [u8], minutes: u64, flows: &[u64]) -> usize
 
 // The minutes of an interval: those under which the deck's first block closes; 0 where none does.
 fn minutes_of(deck: &[u8]) -> u64
-    ensures { (result ≡ minutesAt (block_at (lines_of deck.now) (BeforeTime Fixed) 1)) × (result ≤ mostMinutes) }
+    ensures { (result ≡ minutes_at (block_at (lines_of deck.now) (BeforeTime Fixed) 1)) × (result ≤ most_minutes) }
 {
     let mut cards = [0u64; records::WORDS];
     let found = finding::find_block(deck, 1, &mut cards);
@@ -61,7 +61,7 @@ fn minutes_of(deck: &[u8]) -> u64
 // The hydrograph of a deck's block under a ratio, both by their numbers, or the line of its refusal. With 6,000 words, 300 ordinates and the records of 200 blocks
 // under nine ratios 1 is not met, and 17 only where there is no such block or ratio.
 pub fn hydrograph_deck(deck: &[u8], named: usize, ratio: usize, out: &mut [u8]) -> usize
-    requires { hydrographSize ≤ length out.old }
+    requires { hydrograph_size ≤ length out.old }
     ensures told { Written out.old 0 (hydrograph deck.now named ratio) out.new result }
     ensures counted { Counted result out.new }
 {

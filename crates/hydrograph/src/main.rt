@@ -1,13 +1,13 @@
 // Cases from standard input, each the number of a block, the number of a ratio and the deck's length, in 4 bytes each, the lowest first, and the deck (0 names the last
 // block, or the last ratio). The hydrographs go to standard output, each before a line '--'.
 ghost use Rattle.std.specs.Prelude.{◌≤◌, length};
-ghost use Rattle.graphing.specs.Sizes.{hydrographSize};
+ghost use Rattle.graphing.specs.Sizes.{hydrograph_size};
 
 use streams::{Asked, Next};
 
 // Answers whether the hydrograph and the line behind it were written.
 fn print_hydrograph(deck: &[u8], named: usize, ratio: usize, out: &mut [u8]) -> bool
-    requires { hydrographSize ≤ length out.old }
+    requires { hydrograph_size ≤ length out.old }
 {
     let end = graphing::hydrograph_deck(deck, named, ratio, out);
     if streams::print(&out[..end]) {
@@ -18,7 +18,7 @@ fn print_hydrograph(deck: &[u8], named: usize, ratio: usize, out: &mut [u8]) -> 
 
 // Answers whether there was a whole case and its hydrograph was written.
 fn answer_next(deck: &mut [u8], out: &mut [u8]) -> bool
-    requires { hydrographSize ≤ length out.old }
+    requires { hydrograph_size ≤ length out.old }
 {
     let Asked::Block(case) = streams::next_case() else {
         return false;

@@ -1,7 +1,7 @@
 -- The records that are there as one number, and the numbers that a set of records allows.
 --     mask_of         2 to the power of its place for each card that is there
 --     masks          the numbers of a set: what must be there is counted, what may be there is or is not
---     agrees-mask    cards are those of a set where their number is one of the set's
+--     agrees_mask    cards are those of a set where their number is one of the set's
 use Rattle.std.specs.Prelude.{ℕ, zero, suc, ◌+◌, ◌*◌, ◌^◌, ◌≤◌, ◌<◌, ◌≡◌, refl, Bool, true, false, ◌&&◌, ◌||◌, not, List, [], ◌∷◌, ◌++◌, map, length, drop}
 use Rattle.std.proofs.Common.{sym, ◌∙◌, arith, eq-eqb, ne_eqb, eqb-true, pow-suc, add-one, length-drop, drop_of_length-le, drop-cons}
 use Rattle.std.proofs.Math.Bool.{or-false}
@@ -9,10 +9,10 @@ use Rattle.std.proofs.lemmas.Bool.{eqb-false}
 use Rattle.std.proofs.Math.Nat.{pow-zero, pow-le-pow_right}
 use Rattle.meaning.specs.Words.{◌=?◌, if◌then◌else◌}
 use Rattle.meaning.specs.Records.{Item}
-use Rattle.meaning.specs.Blocks.{Card, Absent, isGiven, cardOf, among, agreesFrom}
+use Rattle.meaning.specs.Blocks.{Card, Absent, is_given, card_of, among, agrees_from}
 use Rattle.records.specs.Rows.{items}
-use Rattle.blocks.specs.Cards.{regions, cardIn, block_of}
-use Rattle.blocks.specs.Values.{block-long}
+use Rattle.blocks.specs.Cards.{regions, card_in, block_of}
+use Rattle.blocks.specs.Values.{block_long}
 
 abbrev pub bit_of : Bool → ℕ
 bit_of true = 1
@@ -20,7 +20,7 @@ bit_of false = 0
 
 abbrev pub mask_of : List Card → ℕ
 mask_of [] = 0
-mask_of (c ∷ cs) = bit_of (isGiven c) + 2 * mask_of cs
+mask_of (c ∷ cs) = bit_of (is_given c) + 2 * mask_of cs
 
 -- the numbers of some more cards, behind one that is there and behind one that is not
 abbrev pub behind : Bool → List ℕ → List ℕ
@@ -79,33 +79,33 @@ among_next false true false m ms =
 among_next false false true m ms = sym (not_behind true false (λ e. omega arith) m ms)
 among_next false false false m ms = sym (among-behind false m ms)
 
-pub agrees-mask : (must may : List Item) (item : Item) (cs : List Card) → agreesFrom must may item cs ≡ among (mask_of cs) (masks must may item (length cs))
-agrees-mask must may item [] = refl
-agrees-mask must may item (c ∷ cs) =
-    rw (agrees-mask must may (item + 1) cs) (among_next (among item must) (among item may) (isGiven c) (mask_of cs) (masks must may (item + 1) (length cs)))
+pub agrees_mask : (must may : List Item) (item : Item) (cs : List Card) → agrees_from must may item cs ≡ among (mask_of cs) (masks must may item (length cs))
+agrees_mask must may item [] = refl
+agrees_mask must may item (c ∷ cs) =
+    rw (agrees_mask must may (item + 1) cs) (among_next (among item must) (among item may) (is_given c) (mask_of cs) (masks must may (item + 1) (length cs)))
 
 -- THE NUMBER BY A PASS over the cards, the last first
-abbrev pub maskOn : List ℕ → Item → ℕ
-maskOn w item = mask_of (drop item (map cardIn (regions w)))
+abbrev pub mask_on : List ℕ → Item → ℕ
+mask_on w item = mask_of (drop item (map card_in (regions w)))
 
-bit-low : (t : Bool) → bit_of t ≤ 1
-bit-low true = omega arith
-bit-low false = omega arith
+bit_low : (t : Bool) → bit_of t ≤ 1
+bit_low true = omega arith
+bit_low false = omega arith
 
 mask_low : (cs : List Card) → mask_of cs < 2 ^ length cs
 mask_low [] = rw (pow-zero 2) (omega arith)
-mask_low (c ∷ cs) = let h = mask_low cs in rw (pow-suc 2 (length cs)) (omega (arith, bit-low (isGiven c)))
+mask_low (c ∷ cs) = let h = mask_low cs in rw (pow-suc 2 (length cs)) (omega (arith, bit_low (is_given c)))
 
 module _ (name w : List ℕ) (item : Item) where
-  pub mask_next : item < items → bit_of (isGiven (cardOf item (block_of name w))) + 2 * maskOn w (item + 1) ≡ maskOn w item
+  pub mask_next : item < items → bit_of (is_given (card_of item (block_of name w))) + 2 * mask_on w (item + 1) ≡ mask_on w item
   mask_next inside =
-      let h : item < length (map cardIn (regions w)) = rw (block-long name w) inside in
-      rw (drop-cons (map cardIn (regions w)) item Absent h, add-one)
+      let h : item < length (map card_in (regions w)) = rw (block_long name w) inside in
+      rw (drop-cons (map card_in (regions w)) item Absent h, add-one)
 
-  pub mask_end : items ≤ item → maskOn w item ≡ 0
-  mask_end past = let h : length (map cardIn (regions w)) ≤ item = rw (block-long name w) past in rw (drop_of_length-le (map cardIn (regions w)) h)
+  pub mask_end : items ≤ item → mask_on w item ≡ 0
+  mask_end past = let h : length (map card_in (regions w)) ≤ item = rw (block_long name w) past in rw (drop_of_length-le (map card_in (regions w)) h)
 
-  pub mask-small : maskOn w item < 2 ^ items
-  mask-small =
-      let few : length (drop item (map cardIn (regions w))) ≤ items = simp length-drop (omega (arith, block-long name w)) in
-      omega (arith, mask_low (drop item (map cardIn (regions w))), pow-le-pow_right {n = 2} (omega arith) few)
+  pub mask_small : mask_on w item < 2 ^ items
+  mask_small =
+      let few : length (drop item (map card_in (regions w))) ≤ items = simp length-drop (omega (arith, block_long name w)) in
+      omega (arith, mask_low (drop item (map card_in (regions w))), pow-le-pow_right {n = 2} (omega arith) few)

@@ -1,10 +1,10 @@
 // The kind of a block. The records that are there are one number, and the kind goes by that number.
 ghost use Rattle.std.specs.Prelude.{◌≡◌, List, ℕ, ◌≤◌, ◌<◌};
-ghost use Rattle.meaning.specs.Blocks.{isGiven, cardOf, kind_of};
+ghost use Rattle.meaning.specs.Blocks.{is_given, card_of, kind_of};
 ghost use Rattle.records.specs.Rows.{items};
 ghost use Rattle.blocks.specs.Cards.{block_of, Readable};
 ghost use Rattle.kinds.specs.Masks.{bit_of, mask_of};
-ghost use Rattle.kinds.specs.Kinds.{kindMeant};
+ghost use Rattle.kinds.specs.Kinds.{kind_meant};
 
 // The kinds of a block, or none.
 #[derive(Drop)]
@@ -20,7 +20,7 @@ pub enum Kind {
 // 1 where the record is there, else 0.
 fn bit_at(cards: &[u64], item: usize) -> u64
     requires { (item < items) × Readable cards.now }
-    ensures { ((name : List ℕ) → result ≡ bit_of (isGiven (cardOf item (block_of name cards.now)))) × (result ≤ 1) }
+    ensures { ((name : List ℕ) → result ≡ bit_of (is_given (card_of item (block_of name cards.now)))) × (result ≤ 1) }
 {
     if blocks::is_given(cards, item) {
         return 1;
@@ -45,7 +45,7 @@ fn mask_of(cards: &[u64]) -> u64
 // The kind of the block, from the records that are there: BA 1, PI 2, LU 4, UI 8, QI 16, HC 32, RM 64, PB 128, RS 256, SV 512, SQ 1024.
 pub fn kind_of(cards: &[u64]) -> Kind
     requires { Readable cards.now }
-    ensures { (name : List ℕ) → kindMeant result ≡ kind_of (block_of name cards.now) }
+    ensures { (name : List ℕ) → kind_meant result ≡ kind_of (block_of name cards.now) }
 {
     match mask_of(cards) {
         15 => Kind::Basin,

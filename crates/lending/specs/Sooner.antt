@@ -1,14 +1,14 @@
 -- Of two rounds what is met first, as the code tells it.
 use Rattle.std.specs.Prelude.{Bool, true, false}
-use Rattle.passes.specs.Apart.{comesFirst}
+use Rattle.passes.specs.Apart.{comes_first}
 use Rattle.turns.specs.declared.Worked.{Worked}
 
 -- of two rounds: by whether the next one and the one found are refused, and which comes first then
-abbrev pub soonerBy : (next found first : Bool) → Worked → Worked → Worked
-soonerBy false found first w v = w
-soonerBy true false first w v = v
-soonerBy true true true w v = w
-soonerBy true true false w v = v
+abbrev pub sooner_by : (next found first : Bool) → Worked → Worked → Worked
+sooner_by false found first w v = w
+sooner_by true false first w v = v
+sooner_by true true true w v = w
+sooner_by true true false w v = v
 
-abbrev pub soonerOf : Worked → Worked → Worked
-soonerOf w v = soonerBy v.refused w.refused (comesFirst w.number w.line v.number v.line) w v
+abbrev pub sooner_of : Worked → Worked → Worked
+sooner_of w v = sooner_by v.refused w.refused (comes_first w.number w.line v.number v.line) w v

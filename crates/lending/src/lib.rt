@@ -1,11 +1,11 @@
 // What a round is lent of the room for results, how many rounds there are, and of two rounds that which is met first.
 ghost use Rattle.std.specs.Prelude.{◌≡◌, false, ◌-◌, ◌≤◌, ◌++◌, length, take, replicate};
-ghost use Rattle.meaning.specs.Blocks.{orWhole};
-ghost use Rattle.meaning.specs.Run.{mostBlocks};
-ghost use Rattle.blocks.specs.Meant.{ratiosIs};
-ghost use Rattle.passes.specs.Apart.{rank_of, comesFirst};
-ghost use Rattle.lending.specs.Lent.{ordinatesFrom, recordsFrom};
-ghost use Rattle.lending.specs.Sooner.{soonerOf};
+ghost use Rattle.meaning.specs.Blocks.{or_whole};
+ghost use Rattle.meaning.specs.Run.{most_blocks};
+ghost use Rattle.blocks.specs.Meant.{ratios_is};
+ghost use Rattle.passes.specs.Apart.{rank_of, comes_first};
+ghost use Rattle.lending.specs.Lent.{ordinates_from, records_from};
+ghost use Rattle.lending.specs.Sooner.{sooner_of};
 
 use blocks::Ratios;
 use turns::Worked;
@@ -13,7 +13,7 @@ use turns::Worked;
 // Where the ordinates begin that a round is lent: at the first where its ratio is wanted, or the last one is; else behind the last. Once the deck is refused none are lent.
 pub fn ordinates_from(refused: bool, ratio: usize, place: usize, n: usize) -> usize
     requires { place ≤ 9 }
-    ensures { result ≡ ordinatesFrom refused ratio place n }
+    ensures { result ≡ ordinates_from refused ratio place n }
 {
     if refused {
         return n;
@@ -29,8 +29,8 @@ pub fn ordinates_from(refused: bool, ratio: usize, place: usize, n: usize) -> us
 
 // Where the records begin that a round is lent: behind those of the rounds before it, if there are such.
 pub fn records_from(refused: bool, blocks: usize, place: usize, m: usize) -> usize
-    requires { (refused ≡ false → blocks ≤ mostBlocks) × (place ≤ 9) }
-    ensures { result ≡ recordsFrom refused blocks place m }
+    requires { (refused ≡ false → blocks ≤ most_blocks) × (place ≤ 9) }
+    ensures { result ≡ records_from refused blocks place m }
 {
     if refused {
         return m;
@@ -62,7 +62,7 @@ fn rank_of(number: u64) -> u64
 
 // Whether of two refusals the first one is met first: on an earlier line, or on the same line by a rank that is not above. Line 0 is that of a missing ZZ, and comes last.
 fn is_first(number: u64, line: u64, other: u64, there: u64) -> bool
-    ensures { result ≡ comesFirst number line other there }
+    ensures { result ≡ comes_first number line other there }
 {
     if line == there {
         return rank_of(number) <= rank_of(other);
@@ -78,7 +78,7 @@ fn is_first(number: u64, line: u64, other: u64, there: u64) -> bool
 
 // What two rounds come to: the refusal that is met first; where none is refused, what the first came to.
 pub fn sooner(found: Worked, next: Worked) -> Worked
-    ensures { result ≡ soonerOf found next }
+    ensures { result ≡ sooner_of found next }
 {
     if next.refused {
         if found.refused {
@@ -94,7 +94,7 @@ pub fn sooner(found: Worked, next: Worked) -> Worked
 // How many ratios there are: without JR there is one.
 pub fn count_of(ratios: Ratios) -> usize
     requires { ratios.count ≤ 9 }
-    ensures { result ≡ length (orWhole (ratiosIs ratios)) }
+    ensures { result ≡ length (or_whole (ratios_is ratios)) }
 {
     if ratios.count == 0 {
         return 1;

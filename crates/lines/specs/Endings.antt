@@ -8,39 +8,39 @@ use Rattle.std.proofs.Math.ListN.{get_or-eq_default}
 use Rattle.meaning.specs.Words.{◌=?◌}
 use Rattle.meaning.specs.Lines.{lf, cr}
 use Rattle.sequences.specs.Choices.{taken, passed}
-use Rattle.lines.specs.Line.{fairLine, unfairLine, lineEnding, lineFrom}
+use Rattle.lines.specs.Line.{fair_line, unfair_line, line_ending, line_from}
 
 module _ (s : List ℕ) (at end : ℕ) where
-  pub too_long : 80 < end - at → unfairLine end ≡ lineFrom s at end
-  unfolding lineFrom
+  pub too_long : 80 < end - at → unfair_line end ≡ line_from s at end
+  unfolding line_from
   too_long h = taken _ (lt-ltb _ _ h) refl
 
   module _ (short : end - at ≤ 80) where
-    pub at-deck-end : length s ≤ end → fairLine end end ≡ lineFrom s at end
-    unfolding lineFrom lineEnding
-    at-deck-end h = passed _ (le-ltb _ _ short) (taken _ (le-leb _ _ h) refl)
+    pub at_deck-end : length s ≤ end → fair_line end end ≡ line_from s at end
+    unfolding line_from line_ending
+    at_deck-end h = passed _ (le-ltb _ _ short) (taken _ (le-leb _ _ h) refl)
 
     module _ (more : end < length s) where
-      pub at-lf : get_or s end 0 ≡ lf → fairLine end (end + 1) ≡ lineFrom s at end
-      unfolding lineFrom lineEnding
-      at-lf h = passed _ (le-ltb _ _ short) (passed _ (lt-leb _ _ more) (taken _ (eq-eqb _ _ h) refl))
+      pub at_lf : get_or s end 0 ≡ lf → fair_line end (end + 1) ≡ line_from s at end
+      unfolding line_from line_ending
+      at_lf h = passed _ (le-ltb _ _ short) (passed _ (lt-leb _ _ more) (taken _ (eq-eqb _ _ h) refl))
 
       module _ (no-lf : get_or s end 0 ≡ lf → ⊥) where
-        pub at-cr-lf : get_or s end 0 ≡ cr → get_or s (end + 1) 0 ≡ lf → fairLine end (end + 2) ≡ lineFrom s at end
-        unfolding lineFrom lineEnding
-        at-cr-lf h k =
+        pub at_cr-lf : get_or s end 0 ≡ cr → get_or s (end + 1) 0 ≡ lf → fair_line end (end + 2) ≡ line_from s at end
+        unfolding line_from line_ending
+        at_cr-lf h k =
             passed _ (le-ltb _ _ short) (passed _ (lt-leb _ _ more) (passed _ (ne_eqb _ _ no-lf) (taken _ (rw (h, k)) refl)))
 
-        at-foreign : ((get_or s end 0 =? cr) && (get_or s (end + 1) 0 =? lf)) ≡ false → unfairLine end ≡ lineFrom s at end
-        unfolding lineFrom lineEnding
-        at-foreign h =
+        at_foreign : ((get_or s end 0 =? cr) && (get_or s (end + 1) 0 =? lf)) ≡ false → unfair_line end ≡ line_from s at end
+        unfolding line_from line_ending
+        at_foreign h =
             passed _ (le-ltb _ _ short) (passed _ (lt-leb _ _ more) (passed _ (ne_eqb _ _ no-lf) (passed _ h refl)))
 
-        pub at_other : (get_or s end 0 ≡ cr → ⊥) → unfairLine end ≡ lineFrom s at end
-        at_other h = at-foreign (rw (ne_eqb (get_or s end 0) cr h))
+        pub at_other : (get_or s end 0 ≡ cr → ⊥) → unfair_line end ≡ line_from s at end
+        at_other h = at_foreign (rw (ne_eqb (get_or s end 0) cr h))
 
-        pub at-cr : (get_or s (end + 1) 0 ≡ lf → ⊥) → unfairLine end ≡ lineFrom s at end
-        at-cr h = at-foreign (rw (ne_eqb (get_or s (end + 1) 0) lf h) (and-false (get_or s end 0 =? cr)))
+        pub at_cr : (get_or s (end + 1) 0 ≡ lf → ⊥) → unfair_line end ≡ line_from s at end
+        at_cr h = at_foreign (rw (ne_eqb (get_or s (end + 1) 0) lf h) (and-false (get_or s end 0 =? cr)))
 
-        pub at-last-cr : length s ≤ end + 1 → unfairLine end ≡ lineFrom s at end
-        at-last-cr h = at-foreign (rw (get_or-eq_default s 0 h) (and-false (get_or s end 0 =? cr)))
+        pub at_last_cr : length s ≤ end + 1 → unfair_line end ≡ line_from s at end
+        at_last_cr h = at_foreign (rw (get_or-eq_default s 0 h) (and-false (get_or s end 0 =? cr)))

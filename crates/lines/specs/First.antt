@@ -12,13 +12,13 @@ use borrow.Author.Tests.{eqb-true, lt-ltb, le-ltb, ltb-true, ltb-false, leb-true
 use Rattle.std.proofs.Math.ListN.{length, get_or, length-drop, length-append, get_or-eq_default}
 use Rattle.std.proofs.Math.Seq.{drop-cons, get_or-drop}
 use Rattle.meaning.specs.Words.{◌=?◌, ◌≤?◌, ◌<?◌, if◌then◌else◌}
-use Rattle.meaning.specs.Lines.{lf, cr, inFront, lines_of, foreign}
+use Rattle.meaning.specs.Lines.{lf, cr, in_front, lines_of, foreign}
 use Rattle.sequences.specs.Choices.{below_or_not, both_hold}
 use Rattle.sequences.specs.Parts.{part}
-use Rattle.sequences.specs.Runs.{run, run-within, run-at-within, run-at-stops, every-run, not-every}
+use Rattle.sequences.specs.Runs.{run, run_within, run_at_within, run_at_stops, every-run, not_every}
 use Rattle.lines.specs.declared.Line.{Line}
-use Rattle.lines.specs.Line.{is_plain, fairLine, unfairLine, lineEnding, lineFrom, line_at}
-use Rattle.lines.specs.Plain.{plain-every, front, front-line, front-none, lines-run}
+use Rattle.lines.specs.Line.{is_plain, fair_line, unfair_line, line_ending, line_from, line_at}
+use Rattle.lines.specs.Plain.{plain-every, front, front-line, front_none, lines-run}
 
 -- A line that passes refusal 3 stands from `at` to `end`, and the next one starts at `next`.
 pub record FairAt (s : List ℕ) (at end next : ℕ) : Type 0 where
@@ -44,31 +44,31 @@ record Begun (xs : List ℕ) (ls : List (List ℕ)) : Type 0 where
   lines : ls ≡ (xs ++ more) ∷ rest
 
 begun : (xs : List ℕ) (ls : List (List ℕ)) → 0 < length xs → Begun xs (front xs ls)
-begun xs [] h = record { more = []; rest = []; lines = rw append-nil (front-none xs h) }
+begun xs [] h = record { more = []; rest = []; lines = rw append-nil (front_none xs h) }
 begun xs (l ∷ ls) h = record { more = l; rest = ls; lines = front-line xs l ls }
 
 -- the lines from a byte on, where a line ends and where not
 module _ (s : List ℕ) (i : ℕ) (more : i < length s) where
-  lines-at-lf : get_or s i 0 ≡ lf → lines_of (drop i s) ≡ [] ∷ lines_of (drop (i + 1) s)
+  lines_at_lf : get_or s i 0 ≡ lf → lines_of (drop i s) ≡ [] ∷ lines_of (drop (i + 1) s)
   unfolding lines_of if◌then◌else◌
-  lines-at-lf h = rw (add-one, drop-cons s i 0 more, h)
+  lines_at_lf h = rw (add-one, drop-cons s i 0 more, h)
 
-  lines-at-cr-lf : i + 1 < length s → get_or s i 0 ≡ cr → get_or s (i + 1) 0 ≡ lf → lines_of (drop i s) ≡ [] ∷ lines_of (drop (i + 2) s)
+  lines_at_cr-lf : i + 1 < length s → get_or s i 0 ≡ cr → get_or s (i + 1) 0 ≡ lf → lines_of (drop i s) ≡ [] ∷ lines_of (drop (i + 2) s)
   unfolding lines_of if◌then◌else◌
-  lines-at-cr-lf still h k =
+  lines_at_cr-lf still h k =
       let e : i + 2 ≡ suc (suc i) = omega arith in
       rw (drop-cons s i 0 more, h, drop-cons s (suc i) 0 (omega arith), rw add-one at k, e)
 
-  lines-at-other : (get_or s i 0 =? lf) ≡ false → ((get_or s i 0 =? cr) && (get_or s (i + 1) 0 =? lf)) ≡ false
-      → lines_of (drop i s) ≡ inFront (get_or s i 0) (lines_of (drop (i + 1) s))
+  lines_at_other : (get_or s i 0 =? lf) ≡ false → ((get_or s i 0 =? cr) && (get_or s (i + 1) 0 =? lf)) ≡ false
+      → lines_of (drop i s) ≡ in_front (get_or s i 0) (lines_of (drop (i + 1) s))
   unfolding lines_of if◌then◌else◌
-  lines-at-other h k =
+  lines_at_other h k =
       let e : get_or (drop (suc i) s) 0 0 ≡ get_or s (i + 1) 0 = get_or-drop (suc i) s 0 0 ∙ ap (λ (j : ℕ). get_or s j 0) (omega arith) in
       rw (drop-cons s i 0 more, h, e, k, add-one)
 
 -- a byte that is not 0 stands before the end
-stands-before : (s : List ℕ) (i : ℕ) → get_or s i 0 ≡ lf → i < length s
-stands-before s i h =
+stands_before : (s : List ℕ) (i : ℕ) → get_or s i 0 ≡ lf → i < length s
+stands_before s i h =
     ⊎_elim (λ k. k) (λ k. let e : get_or s i 0 ≡ 0 = get_or-eq_default s 0 k in absurd (omega arith)) (below_or_not i (length s))
 
 module _ (s : List ℕ) (at : ℕ) (inside : at < length s) where
@@ -79,7 +79,7 @@ module _ (s : List ℕ) (at : ℕ) (inside : at < length s) where
   plains = take (run is_plain (drop at s)) (drop at s)
 
   plains-length : length plains ≡ end - at
-  plains-length = length-take-le (run is_plain (drop at s)) (drop at s) (run-within is_plain (drop at s)) ∙ omega arith
+  plains-length = length-take-le (run is_plain (drop at s)) (drop at s) (run_within is_plain (drop at s)) ∙ omega arith
 
   lines_from : lines_of (drop at s) ≡ front plains (lines_of (drop end s))
   lines_from = lines-run (drop at s) ∙ ap (λ (v : List ℕ). front plains (lines_of v)) (drop-drop (run is_plain (drop at s)) at s)
@@ -93,11 +93,11 @@ module _ (s : List ℕ) (at : ℕ) (inside : at < length s) where
         rw (e, le-ltb 80 (length plains) f, plain-every, every-run is_plain (drop at s))
 
     -- the line's end takes no byte of it
-    fair-before : (next : ℕ) → at < next → next ≤ length s → lines_of (drop end s) ≡ [] ∷ lines_of (drop next s) → FairAt s at end next
-    fair-before next forth within h =
+    fair_before : (next : ℕ) → at < next → next ≤ length s → lines_of (drop end s) ≡ [] ∷ lines_of (drop next s) → FairAt s at end next
+    fair_before next forth within h =
         record {
           begins = omega arith;
-          ends = run-at-within is_plain s at (omega arith);
+          ends = run_at_within is_plain s at (omega arith);
           short = omega arith;
           goes_on = forth;
           within = within;
@@ -107,10 +107,10 @@ module _ (s : List ℕ) (at : ℕ) (inside : at < length s) where
           sound = sound-plains;
         }
 
-    fair-end : length s ≤ end → FairAt s at end end
+    fair_end : length s ≤ end → FairAt s at end end
     unfolding lines_of
-    fair-end h =
-        let r : run is_plain (drop at s) ≤ length (drop at s) = run-within is_plain (drop at s) in
+    fair_end h =
+        let r : run is_plain (drop at s) ≤ length (drop at s) = run_within is_plain (drop at s) in
         let e : end ≡ length s = omega (arith, length-drop at s) in
         let n : end - at ≡ run is_plain (drop at s) = omega arith in
         record {
@@ -119,33 +119,33 @@ module _ (s : List ℕ) (at : ℕ) (inside : at < length s) where
           short = omega arith;
           goes_on = omega arith;
           within = omega arith;
-          lines = lines_from ∙ rw (drop_of_length-le s h, n) (front-none plains (omega (arith, plains-length)));
+          lines = lines_from ∙ rw (drop_of_length-le s h, n) (front_none plains (omega (arith, plains-length)));
           sound = sound-plains;
         }
 
-    fair-lf : end < length s → get_or s end 0 ≡ lf → FairAt s at end (end + 1)
-    fair-lf more h = fair-before (end + 1) (omega arith) (omega arith) (lines-at-lf s end more h)
+    fair_lf : end < length s → get_or s end 0 ≡ lf → FairAt s at end (end + 1)
+    fair_lf more h = fair_before (end + 1) (omega arith) (omega arith) (lines_at_lf s end more h)
 
-    fair-cr-lf : end < length s → get_or s end 0 ≡ cr → get_or s (end + 1) 0 ≡ lf → FairAt s at end (end + 2)
-    fair-cr-lf more h k =
-        let still : end + 1 < length s = stands-before s (end + 1) k in
-        fair-before (end + 2) (omega arith) (omega arith) (lines-at-cr-lf s end more still h k)
+    fair_cr-lf : end < length s → get_or s end 0 ≡ cr → get_or s (end + 1) 0 ≡ lf → FairAt s at end (end + 2)
+    fair_cr-lf more h k =
+        let still : end + 1 < length s = stands_before s (end + 1) k in
+        fair_before (end + 2) (omega arith) (omega arith) (lines_at_cr-lf s end more still h k)
 
-  foreign-byte : end < length s → (get_or s end 0 =? lf) ≡ false → ((get_or s end 0 =? cr) && (get_or s (end + 1) 0 =? lf)) ≡ false → ForeignAt s at
+  foreign_byte : end < length s → (get_or s end 0 =? lf) ≡ false → ((get_or s end 0 =? cr) && (get_or s (end + 1) 0 =? lf)) ≡ false → ForeignAt s at
   unfolding foreign
-  foreign-byte more h k =
+  foreign_byte more h k =
       let b = begun (get_or s end 0 ∷ []) (lines_of (drop (end + 1) s)) (omega arith) in
       record {
         line = plains ++ (get_or s end 0 ∷ b.more);
         rest = b.rest;
-        lines = lines_from ∙ ap (front plains) (lines-at-other s end more h k ∙ b.lines) ∙ front-line plains _ _;
-        met = rw (plain-every, not-every is_plain plains (get_or s end 0) b.more (run-at-stops is_plain s at more))
+        lines = lines_from ∙ ap (front plains) (lines_at_other s end more h k ∙ b.lines) ∙ front-line plains _ _;
+        met = rw (plain-every, not_every is_plain plains (get_or s end 0) b.more (run_at_stops is_plain s at more))
             (or-true (80 <? length (plains ++ (get_or s end 0 ∷ b.more))));
       }
 
-  foreign-long : 80 < end - at → ForeignAt s at
+  foreign_long : 80 < end - at → ForeignAt s at
   unfolding foreign
-  foreign-long h =
+  foreign_long h =
       let b = begun plains (lines_of (drop end s)) (omega (arith, plains-length)) in
       record {
         line = plains ++ b.more;
@@ -161,20 +161,20 @@ module _ (s : List ℕ) (at : ℕ) (inside : at < length s) where
   Told false end next = ForeignAt s at
 
   told : Told (line_at s at).fair (line_at s at).end (line_at s at).next
-  unfolding lineFrom lineEnding if◌then◌else◌
+  unfolding line_from line_ending if◌then◌else◌
   told = go (80 <? (end - at)) refl (length s ≤? end) refl (get_or s end 0 =? lf) refl ((get_or s end 0 =? cr) && (get_or s (end + 1) 0 =? lf)) refl
     where
       go : (a : Bool) → (80 <? (end - at)) ≡ a → (b : Bool) → (length s ≤? end) ≡ b → (c : Bool) → (get_or s end 0 =? lf) ≡ c
           → (d : Bool) → ((get_or s end 0 =? cr) && (get_or s (end + 1) 0 =? lf)) ≡ d
-          → let r : Line = if a then unfairLine end else if b then fairLine end end else if c then fairLine end (end + 1) else if d then fairLine end (end + 2) else unfairLine end in
+          → let r : Line = if a then unfair_line end else if b then fair_line end end else if c then fair_line end (end + 1) else if d then fair_line end (end + 2) else unfair_line end in
           Told r.fair r.end r.next
-      go true p b q c r d t = foreign-long (ltb-true _ _ p)
-      go false p true q c r d t = fair-end (ltb-false _ _ p) (leb-true _ _ q)
-      go false p false q true r d t = fair-lf (ltb-false _ _ p) (leb-false _ _ q) (eqb-true _ _ r)
+      go true p b q c r d t = foreign_long (ltb-true _ _ p)
+      go false p true q c r d t = fair_end (ltb-false _ _ p) (leb-true _ _ q)
+      go false p false q true r d t = fair_lf (ltb-false _ _ p) (leb-false _ _ q) (eqb-true _ _ r)
       go false p false q false r true t =
           let both = both_hold _ _ t in
-          fair-cr-lf (ltb-false _ _ p) (leb-false _ _ q) (eqb-true _ _ both.0) (eqb-true _ _ both.1)
-      go false p false q false r false t = foreign-byte (leb-false _ _ q) r t
+          fair_cr-lf (ltb-false _ _ p) (leb-false _ _ q) (eqb-true _ _ both.0) (eqb-true _ _ both.1)
+      go false p false q false r false t = foreign_byte (leb-false _ _ q) r t
 
 module _ (s : List ℕ) (at : ℕ) (r : Line) (inside : at < length s) (found : r ≡ line_at s at) where
   pub fair-line : r.fair ≡ true → FairAt s at r.end r.next

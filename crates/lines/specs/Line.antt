@@ -8,22 +8,22 @@ use Rattle.lines.specs.declared.Line.{Line}
 abbrev pub is_plain : ℕ → Bool
 is_plain b = (0x20 ≤? b) && (b ≤? 0x7E)
 
-abbrev pub fairLine : ℕ → ℕ → Line
-fairLine end next = record { end = end; next = next; fair = true }
+abbrev pub fair_line : ℕ → ℕ → Line
+fair_line end next = record { end = end; next = next; fair = true }
 
-abbrev pub unfairLine : ℕ → Line
-unfairLine end = record { end = end; next = end; fair = false }
+abbrev pub unfair_line : ℕ → Line
+unfair_line end = record { end = end; next = end; fair = false }
 
 -- A line whose plain bytes stop at `end`: the deck stops there too, or LF, or CR and LF; any other byte is foreign.
-unfoldable pub lineEnding : List ℕ → ℕ → Line
-lineEnding s end =
-    if length s ≤? end then fairLine end end else
-    if get_or s end 0 =? lf then fairLine end (end + 1) else
-    if (get_or s end 0 =? cr) && (get_or s (end + 1) 0 =? lf) then fairLine end (end + 2) else
-    unfairLine end
+unfoldable pub line_ending : List ℕ → ℕ → Line
+line_ending s end =
+    if length s ≤? end then fair_line end end else
+    if get_or s end 0 =? lf then fair_line end (end + 1) else
+    if (get_or s end 0 =? cr) && (get_or s (end + 1) 0 =? lf) then fair_line end (end + 2) else
+    unfair_line end
 
-unfoldable pub lineFrom : List ℕ → ℕ → ℕ → Line
-lineFrom s at end = if 80 <? (end - at) then unfairLine end else lineEnding s end
+unfoldable pub line_from : List ℕ → ℕ → ℕ → Line
+line_from s at end = if 80 <? (end - at) then unfair_line end else line_ending s end
 
 abbrev pub line_at : List ℕ → ℕ → Line
-line_at s at = lineFrom s at (at + run is_plain (drop at s))
+line_at s at = line_from s at (at + run is_plain (drop at s))

@@ -2,27 +2,27 @@
 use Rattle.std.specs.Prelude.{ℕ, suc, ◌<◌, ◌≡◌, refl, Bool, true, false, List, [], ◌∷◌, ◌++◌, length, take, drop}
 use Rattle.std.proofs.Common.{ap, arith}
 use Rattle.meaning.specs.Words.{if◌then◌else◌}
-use Rattle.meaning.specs.Lines.{lf, cr, inFront, lines_of, allPlain}
-use Rattle.sequences.specs.Runs.{run, every, is-every, test-tells}
+use Rattle.meaning.specs.Lines.{lf, cr, in_front, lines_of, all_plain}
+use Rattle.sequences.specs.Runs.{run, every, is_every, test_tells}
 use Rattle.lines.specs.Line.{is_plain}
 
-pub plain-every : (l : List ℕ) → allPlain l ≡ every is_plain l
-unfolding allPlain
-plain-every = is-every is_plain allPlain refl (λ b l. refl)
+pub plain-every : (l : List ℕ) → all_plain l ≡ every is_plain l
+unfolding all_plain
+plain-every = is_every is_plain all_plain refl (λ b l. refl)
 
 -- bytes in front of the first line
 abbrev pub front : List ℕ → List (List ℕ) → List (List ℕ)
 front [] ls = ls
-front (x ∷ xs) ls = inFront x (front xs ls)
+front (x ∷ xs) ls = in_front x (front xs ls)
 
 pub front-line : (xs l : List ℕ) (ls : List (List ℕ)) → front xs (l ∷ ls) ≡ (xs ++ l) ∷ ls
 front-line [] l ls = refl
 front-line (x ∷ xs) l ls = rw (front-line xs l ls)
 
-pub front-none : (xs : List ℕ) → 0 < length xs → front xs [] ≡ xs ∷ []
-front-none [] h = absurd (let z : 0 < 0 = h in omega arith)
-front-none (x ∷ []) h = refl
-front-none (x ∷ y ∷ xs) h = rw (front-none (y ∷ xs) (omega arith))
+pub front_none : (xs : List ℕ) → 0 < length xs → front xs [] ≡ xs ∷ []
+front_none [] h = absurd (let z : 0 < 0 = h in omega arith)
+front_none (x ∷ []) h = refl
+front_none (x ∷ y ∷ xs) h = rw (front_none (y ∷ xs) (omega arith))
 
 pub lines-run : (s : List ℕ) → lines_of s ≡ front (take (run is_plain s) s) (lines_of (drop (run is_plain s) s))
 unfolding run lines_of if◌then◌else◌
@@ -31,5 +31,5 @@ lines-run (b ∷ s) = go (is_plain b) refl (lines-run s)
   where
     go : (t : Bool) → is_plain b ≡ t → lines_of s ≡ front (take (run is_plain s) s) (lines_of (drop (run is_plain s) s))
         → lines_of (b ∷ s) ≡ front (take (if t then suc (run is_plain s) else 0) (b ∷ s)) (lines_of (drop (if t then suc (run is_plain s) else 0) (b ∷ s)))
-    go true e ih = rw (test-tells is_plain b lf e refl, test-tells is_plain b cr e refl) (ap (inFront b) ih)
+    go true e ih = rw (test_tells is_plain b lf e refl, test_tells is_plain b cr e refl) (ap (in_front b) ih)
     go false e ih = refl

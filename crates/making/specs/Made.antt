@@ -1,21 +1,21 @@
 -- A block's hydrograph made and held, before its flows are looked at.
 --     HeldWithin           what is asked of what is held before
---     stackBy, wordsBy     what the stack and the work words are then, for each kind
---     Makes                the outcome, with makes-by: how it comes about
---     MakesAll             the same with whether a pool rose above its last row; a block that is no pond has none (all-dry)
+--     stack_by, words_by     what the stack and the work words are then, for each kind
+--     Makes                the outcome, with makes_by: how it comes about
+--     MakesAll             the same with whether a pool rose above its last row; a block that is no pond has none (all_dry)
 use Rattle.std.specs.Prelude.{ℕ, ◌-◌, ◌*◌, ◌≤◌, ◌≡◌, false, List, length}
 use Rattle.std.proofs.Common.{sym, ◌∙◌}
 use Rattle.sequences.specs.Parts.{part, put}
-use Rattle.meaning.specs.Water.{inflowOf, routedOf}
-use Rattle.meaning.specs.Pool.{pondedOf}
-use Rattle.meaning.specs.Blocks.{Time, Block, Kind, NoKind, Basin, Inflow, Confluence, Reach, Pond, kind_of, Held, total, basinArea, combined, inflowValues, reachSteps, reachK, reachX, pondRows, overtopsBy, overtops}
-use Rattle.meaning.specs.Run.{takenBy, heldAfter}
-use Rattle.meaning.specs.Records.{mostOrdinates}
+use Rattle.meaning.specs.Water.{inflow_of, routed_of}
+use Rattle.meaning.specs.Pool.{ponded_of}
+use Rattle.meaning.specs.Blocks.{Time, Block, Kind, NoKind, Basin, Inflow, Confluence, Reach, Pond, kind_of, Held, total, basin_area, combined, inflow_values, reach_steps, reach_k, reach_x, pond_rows, overtops_by, overtops}
+use Rattle.meaning.specs.Run.{taken_by, held_after}
+use Rattle.meaning.specs.Records.{most_ordinates}
 use Rattle.stack.specs.declared.Stack.{Stack}
 use Rattle.stack.specs.View.{Fits, view, pushed}
-use Rattle.stack.specs.Joining.{joinedStack, joinedAllWords}
+use Rattle.stack.specs.Joining.{joined_stack, joined_all_words}
 use Rattle.stack.specs.Limits.{Within}
-use Rattle.stack.specs.Kinds.{blockRunoff}
+use Rattle.stack.specs.Kinds.{block_runoff}
 use Rattle.making.specs.declared.Made.{Made}
 
 -- all that is held is within its limits; 199 blocks of the largest area may have been closed
@@ -24,45 +24,45 @@ pub record HeldWithin (s : Stack) (nq : ℕ) (w : List ℕ) : Type 0 where
   pub flows : Within (view s nq w)
   pub areas : (total (view s nq w)).area ≤ 198_999_801
 
-abbrev pub stackBy : Kind → Block → Stack → Stack
-stackBy NoKind b s = s
-stackBy Basin b s = pushed (basinArea b) s
-stackBy Inflow b s = pushed (basinArea b) s
-stackBy Confluence b s = joinedStack (combined b - 1) s
-stackBy Reach b s = s
-stackBy Pond b s = s
+abbrev pub stack_by : Kind → Block → Stack → Stack
+stack_by NoKind b s = s
+stack_by Basin b s = pushed (basin_area b) s
+stack_by Inflow b s = pushed (basin_area b) s
+stack_by Confluence b s = joined_stack (combined b - 1) s
+stack_by Reach b s = s
+stack_by Pond b s = s
 
-abbrev pub wordsBy : Kind → Time → Block → Stack → List ℕ → List ℕ
-wordsBy NoKind τ b s w = w
-wordsBy Basin τ b s w = put (mostOrdinates * s.depth) τ.ordinates w (blockRunoff τ b)
-wordsBy Inflow τ b s w = put (mostOrdinates * s.depth) τ.ordinates w (inflowOf (inflowValues b) τ.ordinates)
-wordsBy Confluence τ b s w = joinedAllWords (combined b - 1) s.depth τ.ordinates w
-wordsBy Reach τ b s w =
-    put (mostOrdinates * (s.depth - 1)) τ.ordinates w (routedOf (reachSteps b) τ.minutes (reachK b) (reachX b) (part (mostOrdinates * (s.depth - 1)) τ.ordinates w))
-wordsBy Pond τ b s w =
-    put (mostOrdinates * (s.depth - 1)) τ.ordinates w (pondedOf τ.minutes (pondRows b) (part (mostOrdinates * (s.depth - 1)) τ.ordinates w))
+abbrev pub words_by : Kind → Time → Block → Stack → List ℕ → List ℕ
+words_by NoKind τ b s w = w
+words_by Basin τ b s w = put (most_ordinates * s.depth) τ.ordinates w (block_runoff τ b)
+words_by Inflow τ b s w = put (most_ordinates * s.depth) τ.ordinates w (inflow_of (inflow_values b) τ.ordinates)
+words_by Confluence τ b s w = joined_all_words (combined b - 1) s.depth τ.ordinates w
+words_by Reach τ b s w =
+    put (most_ordinates * (s.depth - 1)) τ.ordinates w (routed_of (reach_steps b) τ.minutes (reach_k b) (reach_x b) (part (most_ordinates * (s.depth - 1)) τ.ordinates w))
+words_by Pond τ b s w =
+    put (most_ordinates * (s.depth - 1)) τ.ordinates w (ponded_of τ.minutes (pond_rows b) (part (most_ordinates * (s.depth - 1)) τ.ordinates w))
 
 pub record Makes (τ : Time) (b : Block) (s : Stack) (w : List ℕ) (next : Stack) (w' : List ℕ) : Type 0 where
-  pub stack : next ≡ stackBy (kind_of b) b s
-  pub words : w' ≡ wordsBy (kind_of b) τ b s w
-  pub held : view next τ.ordinates w' ≡ heldAfter τ b (view s τ.ordinates w)
+  pub stack : next ≡ stack_by (kind_of b) b s
+  pub words : w' ≡ words_by (kind_of b) τ b s w
+  pub held : view next τ.ordinates w' ≡ held_after τ b (view s τ.ordinates w)
 
-pub makes-by : (τ : Time) (b : Block) (s : Stack) (w : List ℕ) {k : Kind} {next : Stack} {w' : List ℕ} → kind_of b ≡ k → next ≡ stackBy k b s → w' ≡ wordsBy k τ b s w
-    → view next τ.ordinates w' ≡ heldAfter τ b (view s τ.ordinates w) → Makes τ b s w next w'
-makes-by τ b s w e p q v = record { stack = rw e p; words = rw e q; held = v }
+pub makes_by : (τ : Time) (b : Block) (s : Stack) (w : List ℕ) {k : Kind} {next : Stack} {w' : List ℕ} → kind_of b ≡ k → next ≡ stack_by k b s → w' ≡ words_by k τ b s w
+    → view next τ.ordinates w' ≡ held_after τ b (view s τ.ordinates w) → Makes τ b s w next w'
+makes_by τ b s w e p q v = record { stack = rw e p; words = rw e q; held = v }
 
 -- 20 by the kind alone
-pub over_by : (τ : Time) (b : Block) (h : Held) {k : Kind} → kind_of b ≡ k → overtops τ b h ≡ overtopsBy k τ b h
+pub over_by_lem : (τ : Time) (b : Block) (h : Held) {k : Kind} → kind_of b ≡ k → overtops τ b h ≡ overtops_by k τ b h
 unfolding overtops
-over_by τ b h e = rw e
+over_by_lem τ b h e = rw e
 
-abbrev pub madeDry : Stack → Made
-madeDry s = record { held = s; overtopped = false }
+abbrev pub made_dry : Stack → Made
+made_dry s = record { held = s; overtopped = false }
 
 pub record MakesAll (τ : Time) (b : Block) (s : Stack) (w : List ℕ) (r : Made) (w' : List ℕ) : Type 0 where
   pub makes : Makes τ b s w r.held w'
-  pub over : r.overtopped ≡ overtops τ b (takenBy b (view s τ.ordinates w))
+  pub over : r.overtopped ≡ overtops τ b (taken_by b (view s τ.ordinates w))
 
-pub all-dry : (τ : Time) (b : Block) (s : Stack) (w : List ℕ) {k : Kind} {next : Stack} {r : Made} {w' : List ℕ} → kind_of b ≡ k
-    → overtopsBy k τ b (takenBy b (view s τ.ordinates w)) ≡ false → Makes τ b s w next w' → r ≡ madeDry next → MakesAll τ b s w r w'
-all-dry τ b s w e none m f = rw f (record { makes = m; over = sym (over_by τ b (takenBy b (view s τ.ordinates w)) e ∙ none) })
+pub all_dry : (τ : Time) (b : Block) (s : Stack) (w : List ℕ) {k : Kind} {next : Stack} {r : Made} {w' : List ℕ} → kind_of b ≡ k
+    → overtops_by k τ b (taken_by b (view s τ.ordinates w)) ≡ false → Makes τ b s w next w' → r ≡ made_dry next → MakesAll τ b s w r w'
+all_dry τ b s w e none m f = rw f (record { makes = m; over = sym (over_by_lem τ b (taken_by b (view s τ.ordinates w)) e ∙ none) })

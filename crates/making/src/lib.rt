@@ -1,15 +1,15 @@
 // The hydrograph of a block that its shape does not refuse, made in the work words and held: a function for each kind.
 ghost use Rattle.std.specs.Prelude.{◌≡◌, List, [], ℕ};
-ghost use Rattle.meaning.specs.Blocks.{Basin, Inflow, Confluence, Reach, Pond, basinArea, overtops};
-ghost use Rattle.meaning.specs.Run.{takenBy};
-ghost use Rattle.blocks.specs.Meant.{timeIs};
+ghost use Rattle.meaning.specs.Blocks.{Basin, Inflow, Confluence, Reach, Pond, basin_area, overtops};
+ghost use Rattle.meaning.specs.Run.{taken_by};
+ghost use Rattle.blocks.specs.Meant.{time_is};
 ghost use Rattle.blocks.specs.Cards.{block_of, Readable};
-ghost use Rattle.kinds.specs.Kinds.{kindMeant};
+ghost use Rattle.kinds.specs.Kinds.{kind_meant};
 ghost use Rattle.stack.specs.View.{view};
-ghost use Rattle.stack.specs.Kinds.{blockLoss, blockTotal, blockStorm};
+ghost use Rattle.stack.specs.Kinds.{block_loss, block_total, block_storm};
 ghost use Rattle.shaping.specs.Limits.{CardsWithin, Read};
 ghost use Rattle.shaping.specs.Shapes.{Shaped};
-ghost use Rattle.making.specs.Made.{HeldWithin, Makes, MakesAll, madeDry};
+ghost use Rattle.making.specs.Made.{HeldWithin, Makes, MakesAll, made_dry};
 
 use blocks::Time;
 use excess::{Loss, Storm, Total};
@@ -19,15 +19,15 @@ use stack::Stack;
 // The area of a basin or an inflow; a block without BA has none.
 fn area_of(cards: &[u64]) -> u32
     requires { Readable cards.now × CardsWithin (block_of [] cards.now) }
-    ensures { (name : List ℕ) → result ≡ basinArea (block_of name cards.now) }
+    ensures { (name : List ℕ) → result ≡ basin_area (block_of name cards.now) }
 {
     blocks::value_at(cards, records::BA, 0) as u32
 }
 
 // What a basin loses of its rain.
 fn loss_of(time: Time, cards: &[u64]) -> Loss
-    requires { Read (timeIs time) cards.now }
-    ensures { (name : List ℕ) → result ≡ blockLoss (timeIs time) (block_of name cards.now) }
+    requires { Read (time_is time) cards.now }
+    ensures { (name : List ℕ) → result ≡ block_loss (time_is time) (block_of name cards.now) }
 {
     let initial = units::depth_of(blocks::value_at(cards, records::LU, 0));
     let uniform = units::uniform_loss(time.minutes, blocks::value_at(cards, records::LU, 1));
@@ -37,7 +37,7 @@ fn loss_of(time: Time, cards: &[u64]) -> Loss
 // The total of its storm, where it is given one.
 fn total_of(cards: &[u64]) -> Total
     requires { Readable cards.now × CardsWithin (block_of [] cards.now) }
-    ensures { (name : List ℕ) → result ≡ blockTotal (block_of name cards.now) }
+    ensures { (name : List ℕ) → result ≡ block_total (block_of name cards.now) }
 {
     if blocks::is_given(cards, records::PB) {
         return Total::Given(units::depth_of(blocks::value_at(cards, records::PB, 0)));
@@ -47,8 +47,8 @@ fn total_of(cards: &[u64]) -> Total
 
 // What is made of the rain that it lists.
 pub fn storm_of(time: Time, cards: &[u64]) -> Storm
-    requires { Read (timeIs time) cards.now }
-    ensures { (name : List ℕ) → result ≡ blockStorm (timeIs time) (block_of name cards.now) }
+    requires { Read (time_is time) cards.now }
+    ensures { (name : List ℕ) → result ≡ block_storm (time_is time) (block_of name cards.now) }
 {
     let total = total_of(cards);
     let loss = loss_of(time, cards);
@@ -62,9 +62,9 @@ pub fn storm_of(time: Time, cards: &[u64]) -> Storm
 // A basin: the runoff of its storm.
 fn make_basin(work: &mut [u64], held: Stack, time: Time, cards: &[u64]) -> Stack
     requires held_within { HeldWithin held time.ordinates work.old }
-    requires read { Read (timeIs time) cards.now }
-    requires by_index { (name : List ℕ) → Shaped Basin (timeIs time) (block_of name cards.now) held.depth }
-    ensures { (name : List ℕ) → Makes (timeIs time) (block_of name cards.now) held work.old result work.new }
+    requires read { Read (time_is time) cards.now }
+    requires by_index { (name : List ℕ) → Shaped Basin (time_is time) (block_of name cards.now) held.depth }
+    ensures { (name : List ℕ) → Makes (time_is time) (block_of name cards.now) held work.old result work.new }
 {
     let area = area_of(cards);
     let storm = storm_of(time, cards);
@@ -76,9 +76,9 @@ fn make_basin(work: &mut [u64], held: Stack, time: Time, cards: &[u64]) -> Stack
 // An inflow: its flows as listed.
 fn make_inflow(work: &mut [u64], held: Stack, time: Time, cards: &[u64]) -> Stack
     requires held_within { HeldWithin held time.ordinates work.old }
-    requires read { Read (timeIs time) cards.now }
-    requires by_index { (name : List ℕ) → Shaped Inflow (timeIs time) (block_of name cards.now) held.depth }
-    ensures { (name : List ℕ) → Makes (timeIs time) (block_of name cards.now) held work.old result work.new }
+    requires read { Read (time_is time) cards.now }
+    requires by_index { (name : List ℕ) → Shaped Inflow (time_is time) (block_of name cards.now) held.depth }
+    ensures { (name : List ℕ) → Makes (time_is time) (block_of name cards.now) held work.old result work.new }
 {
     let area = area_of(cards);
     let values = blocks::values(cards, records::QI);
@@ -88,9 +88,9 @@ fn make_inflow(work: &mut [u64], held: Stack, time: Time, cards: &[u64]) -> Stac
 // A confluence: the last held become one.
 fn make_confluence(work: &mut [u64], held: Stack, time: Time, cards: &[u64]) -> Stack
     requires held_within { HeldWithin held time.ordinates work.old }
-    requires read { Read (timeIs time) cards.now }
-    requires by_index { (name : List ℕ) → Shaped Confluence (timeIs time) (block_of name cards.now) held.depth }
-    ensures { (name : List ℕ) → Makes (timeIs time) (block_of name cards.now) held work.old result work.new }
+    requires read { Read (time_is time) cards.now }
+    requires by_index { (name : List ℕ) → Shaped Confluence (time_is time) (block_of name cards.now) held.depth }
+    ensures { (name : List ℕ) → Makes (time_is time) (block_of name cards.now) held work.old result work.new }
 {
     let joins = blocks::value_at(cards, records::HC, 0) as usize;
     stack::join_last(work, held, time.ordinates, joins)
@@ -99,9 +99,9 @@ fn make_confluence(work: &mut [u64], held: Stack, time: Time, cards: &[u64]) -> 
 // A reach: the last held is routed.
 fn make_reach(work: &mut [u64], held: Stack, time: Time, cards: &[u64]) -> Stack
     requires held_within { HeldWithin held time.ordinates work.old }
-    requires read { Read (timeIs time) cards.now }
-    requires by_index { (name : List ℕ) → Shaped Reach (timeIs time) (block_of name cards.now) held.depth }
-    ensures { (name : List ℕ) → Makes (timeIs time) (block_of name cards.now) held work.old result work.new }
+    requires read { Read (time_is time) cards.now }
+    requires by_index { (name : List ℕ) → Shaped Reach (time_is time) (block_of name cards.now) held.depth }
+    ensures { (name : List ℕ) → Makes (time_is time) (block_of name cards.now) held work.old result work.new }
 {
     let reach = shaping::reach_of(cards);
     stack::route_last(
@@ -119,10 +119,10 @@ fn make_reach(work: &mut [u64], held: Stack, time: Time, cards: &[u64]) -> Stack
 // A pond: the last held goes through its pool. It answers whether the pool rose above the last row of its table.
 fn make_pond(work: &mut [u64], held: Stack, time: Time, cards: &[u64]) -> bool
     requires held_within { HeldWithin held time.ordinates work.old }
-    requires read { Read (timeIs time) cards.now }
-    requires by_index { (name : List ℕ) → Shaped Pond (timeIs time) (block_of name cards.now) held.depth }
-    ensures by_index_2 { (name : List ℕ) → result ≡ overtops (timeIs time) (block_of name cards.now) (takenBy (block_of name cards.now) (view held time.ordinates work.old)) }
-    ensures made { (name : List ℕ) → Makes (timeIs time) (block_of name cards.now) held work.old held work.new }
+    requires read { Read (time_is time) cards.now }
+    requires by_index { (name : List ℕ) → Shaped Pond (time_is time) (block_of name cards.now) held.depth }
+    ensures by_index_2 { (name : List ℕ) → result ≡ overtops (time_is time) (block_of name cards.now) (taken_by (block_of name cards.now) (view held time.ordinates work.old)) }
+    ensures made { (name : List ℕ) → Makes (time_is time) (block_of name cards.now) held work.old held work.new }
 {
     let svs = blocks::values(cards, records::SV);
     let sqs = blocks::values(cards, records::SQ);
@@ -138,7 +138,7 @@ pub struct Made {
 
 // No pool rose: the block is no pond.
 fn dry(held: Stack) -> Made
-    ensures { result ≡ madeDry held }
+    ensures { result ≡ made_dry held }
 {
     Made {
         held,
@@ -148,9 +148,9 @@ fn dry(held: Stack) -> Made
 
 pub fn make(work: &mut [u64], held: Stack, time: Time, cards: &[u64], kind: Kind) -> Made
     requires held_within { HeldWithin held time.ordinates work.old }
-    requires read { Read (timeIs time) cards.now }
-    requires by_index { (name : List ℕ) → Shaped (kindMeant kind) (timeIs time) (block_of name cards.now) held.depth }
-    ensures { (name : List ℕ) → MakesAll (timeIs time) (block_of name cards.now) held work.old result work.new }
+    requires read { Read (time_is time) cards.now }
+    requires by_index { (name : List ℕ) → Shaped (kind_meant kind) (time_is time) (block_of name cards.now) held.depth }
+    ensures { (name : List ℕ) → MakesAll (time_is time) (block_of name cards.now) held work.old result work.new }
 {
     match kind {
         Kind::NoKind => dry(held),

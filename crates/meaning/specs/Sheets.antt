@@ -3,9 +3,9 @@ use Rattle.std.specs.Prelude.{ℕ, ◌-◌, ◌≡◌, refl, List, [], ◌∷◌
 use Rattle.meaning.specs.Words.{bytes}
 use Rattle.meaning.specs.Water.{list_from}
 use Rattle.meaning.specs.Run.{Worked, Stopped, Done, worked}
-use Rattle.meaning.specs.Sheet.{Sheet, sheetOf, brings, columnSums, inchMillionths, cfsMillionths, sixPlaces, sheet}
+use Rattle.meaning.specs.Sheet.{Sheet, sheet_of, brings, column_sums, inch_millionths, cfs_millionths, six_places, sheet}
 use Rattle.meaning.specs.Computing.{computing}
-use Rattle.meaning.specs.Pond.{pond, Row, row, Agree, timeUnder, block_at, flowUnder, rainUnder, lossUnder, excessUnder}
+use Rattle.meaning.specs.Pond.{pond, Row, row, Agree, time_under, block_at, flow_under, rain_under, loss_under, excess_under}
 
 -- A basin between an inflow and a confluence, under two ratios. Its third interval is dry, its second unit ordinate is 0, and the last intervals' shares are cut at
 -- the sixth ordinate.
@@ -31,49 +31,49 @@ abbrev basin : List ℕ → List ℕ
 basin lines = bytes "*FREE\nIT 60,,,2\nKK A\nBA 1\nLU 0.50\n" ++ lines ++ bytes "ZZ\n"
 
 -- What each interval brings to an ordinate, and the sums of the columns: of a block, by its place from 1, under the ratio at a place. The ordinate counts from 1 too.
-abbrev columnUnder : (j k i : ℕ) → Worked → List ℕ
-columnUnder j k i (Stopped number line) = []
-columnUnder j k i (Done τ rss) = list_from (brings (sheetOf (timeUnder j τ) (block_at k rss)) (i - 1)) 0 τ.ordinates
+abbrev column_under : (j k i : ℕ) → Worked → List ℕ
+column_under j k i (Stopped number line) = []
+column_under j k i (Done τ rss) = list_from (brings (sheet_of (time_under j τ) (block_at k rss)) (i - 1)) 0 τ.ordinates
 
-abbrev sumsUnder : (j k : ℕ) → Worked → List ℕ
-sumsUnder j k (Stopped number line) = []
-sumsUnder j k (Done τ rss) = columnSums (sheetOf (timeUnder j τ) (block_at k rss))
+abbrev sums_under : (j k : ℕ) → Worked → List ℕ
+sums_under j k (Stopped number line) = []
+sums_under j k (Done τ rss) = column_sums (sheet_of (time_under j τ) (block_at k rss))
 
 -- From the rain to the sums, in units.
-abbrev columnsTable : List Row
-columnsTable =
+abbrev columns_table : List Row
+columns_table =
     -- 0.37 of 352,500 depth units, by the parts 4, 3, 0, 2 and 1 of 10; the initial loss is 12,000 and the uniform one 3,000 an interval
-    row (rainUnder 1 2 (worked creek)) (52_170 ∷ 39_127 ∷ 0 ∷ 26_085 ∷ 13_043 ∷ 0 ∷ []) ∷
-    row (lossUnder 1 2 (worked creek)) (15_000 ∷ 3_000 ∷ 0 ∷ 3_000 ∷ 3_000 ∷ 0 ∷ []) ∷
-    row (excessUnder 1 2 (worked creek)) (37_170 ∷ 36_127 ∷ 0 ∷ 23_085 ∷ 10_043 ∷ 0 ∷ []) ∷
+    row (rain_under 1 2 (worked creek)) (52_170 ∷ 39_127 ∷ 0 ∷ 26_085 ∷ 13_043 ∷ 0 ∷ []) ∷
+    row (loss_under 1 2 (worked creek)) (15_000 ∷ 3_000 ∷ 0 ∷ 3_000 ∷ 3_000 ∷ 0 ∷ []) ∷
+    row (excess_under 1 2 (worked creek)) (37_170 ∷ 36_127 ∷ 0 ∷ 23_085 ∷ 10_043 ∷ 0 ∷ []) ∷
     -- one share, two and three in a column: 767 times the first excess, 1,019 times the second, none of the dry interval, 214 times the fourth
-    row (columnUnder 1 2 1 (worked creek)) (7_954_380 ∷ 0 ∷ 0 ∷ 0 ∷ 0 ∷ 0 ∷ []) ∷
-    row (columnUnder 1 2 4 (worked creek)) (28_509_390 ∷ 36_813_413 ∷ 0 ∷ 4_940_190 ∷ 0 ∷ 0 ∷ []) ∷
-    row (columnUnder 1 2 5 (worked creek)) (0 ∷ 27_709_409 ∷ 0 ∷ 0 ∷ 2_149_202 ∷ 0 ∷ []) ∷
+    row (column_under 1 2 1 (worked creek)) (7_954_380 ∷ 0 ∷ 0 ∷ 0 ∷ 0 ∷ 0 ∷ []) ∷
+    row (column_under 1 2 4 (worked creek)) (28_509_390 ∷ 36_813_413 ∷ 0 ∷ 4_940_190 ∷ 0 ∷ 0 ∷ []) ∷
+    row (column_under 1 2 5 (worked creek)) (0 ∷ 27_709_409 ∷ 0 ∷ 0 ∷ 2_149_202 ∷ 0 ∷ []) ∷
     -- the sums under both ratios; they are the ordinates
-    row (sumsUnder 1 2 (worked creek)) (7_954_380 ∷ 7_731_178 ∷ 37_876_230 ∷ 70_262_993 ∷ 29_858_611 ∷ 23_523_615 ∷ []) ∷
-    row (sumsUnder 2 2 (worked creek)) (34_507_500 ∷ 27_646_018 ∷ 164_313_750 ∷ 273_537_053 ∷ 107_873_911 ∷ 86_742_375 ∷ []) ∷
-    row (sumsUnder 1 2 (worked creek)) (flowUnder 1 2 (worked creek)) ∷
-    row (sumsUnder 2 2 (worked creek)) (flowUnder 2 2 (worked creek)) ∷
-    row (sumsUnder 1 1 (worked pond)) (flowUnder 1 1 (worked pond)) ∷
+    row (sums_under 1 2 (worked creek)) (7_954_380 ∷ 7_731_178 ∷ 37_876_230 ∷ 70_262_993 ∷ 29_858_611 ∷ 23_523_615 ∷ []) ∷
+    row (sums_under 2 2 (worked creek)) (34_507_500 ∷ 27_646_018 ∷ 164_313_750 ∷ 273_537_053 ∷ 107_873_911 ∷ 86_742_375 ∷ []) ∷
+    row (sums_under 1 2 (worked creek)) (flow_under 1 2 (worked creek)) ∷
+    row (sums_under 2 2 (worked creek)) (flow_under 2 2 (worked creek)) ∷
+    row (sums_under 1 1 (worked pond)) (flow_under 1 1 (worked pond)) ∷
     []
 
-pub columns : Agree columnsTable
+pub columns : Agree columns_table
 unfolding computing
 columns =
     (refl, (refl, (refl, (refl, (refl, (refl, (refl, (refl, (refl, (refl, (refl, tt)))))))))))
 
 -- On paper: half up, of ten sixths and of sixtieths; six places, whatever the number.
-abbrev placesTable : List Row
-placesTable =
-    row (inchMillionths 0 ∷ inchMillionths 1 ∷ inchMillionths 2 ∷ inchMillionths 3 ∷ []) (0 ∷ 2 ∷ 3 ∷ 5 ∷ []) ∷
-    row (cfsMillionths 29 ∷ cfsMillionths 30 ∷ cfsMillionths 60 ∷ cfsMillionths 89 ∷ cfsMillionths 90 ∷ []) (0 ∷ 1 ∷ 1 ∷ 1 ∷ 2 ∷ []) ∷
-    row (sixPlaces 7) (bytes "0.000007") ∷
-    row (sixPlaces 12_345_678) (bytes "12.345678") ∷
-    row (sixPlaces 100_000_000_000) (bytes "100000.000000") ∷
+abbrev places_table : List Row
+places_table =
+    row (inch_millionths 0 ∷ inch_millionths 1 ∷ inch_millionths 2 ∷ inch_millionths 3 ∷ []) (0 ∷ 2 ∷ 3 ∷ 5 ∷ []) ∷
+    row (cfs_millionths 29 ∷ cfs_millionths 30 ∷ cfs_millionths 60 ∷ cfs_millionths 89 ∷ cfs_millionths 90 ∷ []) (0 ∷ 1 ∷ 1 ∷ 1 ∷ 2 ∷ []) ∷
+    row (six_places 7) (bytes "0.000007") ∷
+    row (six_places 12_345_678) (bytes "12.345678") ∷
+    row (six_places 100_000_000_000) (bytes "100000.000000") ∷
     []
 
-pub places : Agree placesTable
+pub places : Agree places_table
 unfolding computing
 places = (refl, (refl, (refl, (refl, (refl, tt)))))
 
@@ -91,20 +91,20 @@ unfolding computing
 pond-sheet = refl
 
 -- Which ratio a sheet says, and is made under: the named one, by 0 the last.
-abbrev titlesTable : List Row
-titlesTable =
+abbrev titles_table : List Row
+titles_table =
     row (take 16 (sheet creek 2 1)) (bytes "units,0.37,WEST\n") ∷
     row (take 16 (sheet creek 2 2)) (bytes "units,1.25,WEST\n") ∷
     row (take 16 (sheet creek 2 0)) (bytes "units,1.25,WEST\n") ∷
     []
 
-pub titles : Agree titlesTable
+pub titles : Agree titles_table
 unfolding computing
 titles = (refl, (refl, (refl, tt)))
 
 -- The creek's under 0.37. Just half is rounded up (37,876,230 units are 631,270.5 millionths), as more is (58 sixtieths, 31); less is not (29, 2). Of the depths 39,127
 -- goes up and 13,043 down. A sum is rounded once: that of the fourth column ends in 50, though its shares end in 57, 57 and 37.
-pub first-ratio : sheet creek 2 1 ≡
+pub first_ratio : sheet creek 2 1 ≡
     bytes "units,0.37,WEST\n" ++
     bytes "interval,rain,loss,excess,1,2,3,4,5,6\n" ++
     bytes "1,52170,15000,37170,7954380,0,37876230,28509390,,\n" ++
@@ -120,10 +120,10 @@ pub first-ratio : sheet creek 2 1 ≡
     bytes "5,0.021738,0.005000,0.016738,,,,,0.035820,0.000000\n" ++
     bytes "sum,,,,0.132573,0.128853,0.631271,1.171050,0.497644,0.392060\n"
 unfolding computing
-first-ratio = refl
+first_ratio = refl
 
 -- And under 1.25, the last.
-pub second-ratio : sheet creek 2 2 ≡
+pub second_ratio : sheet creek 2 2 ≡
     bytes "units,1.25,WEST\n" ++
     bytes "interval,rain,loss,excess,1,2,3,4,5,6\n" ++
     bytes "1,176250,15000,161250,34507500,0,164313750,123678750,,\n" ++
@@ -139,11 +139,11 @@ pub second-ratio : sheet creek 2 2 ≡
     bytes "5,0.073438,0.005000,0.068438,,,,,0.146458,0.000000\n" ++
     bytes "sum,,,,0.575125,0.460767,2.738563,4.558951,1.797899,1.445706\n"
 unfolding computing
-second-ratio = refl
+second_ratio = refl
 
-pub last-ratio : sheet creek 2 0 ≡ sheet creek 2 2
+pub last_ratio : sheet creek 2 0 ≡ sheet creek 2 2
 unfolding computing
-last-ratio = refl
+last_ratio = refl
 
 -- A sheet without rows, since all rain is lost; rows without shares, since there is no unit ordinate; the last block named by 0.
 pub no_rows : sheet (basin (bytes "PI 0.20,0.30\nUI 7\n")) 1 1 ≡
@@ -156,7 +156,7 @@ pub no_rows : sheet (basin (bytes "PI 0.20,0.30\nUI 7\n")) 1 1 ≡
 unfolding computing
 no_rows = refl
 
-pub no-shares : sheet (basin (bytes "PI 0.20,0.40\nUI\n")) 0 0 ≡
+pub no_shares : sheet (basin (bytes "PI 0.20,0.40\nUI\n")) 0 0 ≡
     bytes "units,1.00,A\n" ++
     bytes "interval,rain,loss,excess,1,2\n" ++
     bytes "2,240000,180000,60000,,\n" ++
@@ -166,11 +166,11 @@ pub no-shares : sheet (basin (bytes "PI 0.20,0.40\nUI\n")) 0 0 ≡
     bytes "2,0.400000,0.300000,0.100000,,\n" ++
     bytes "sum,,,,0.000000,0.000000\n"
 unfolding computing
-no-shares = refl
+no_shares = refl
 
 -- What stands in a sheet's place.
-abbrev insteadTable : List Row
-insteadTable =
+abbrev instead_table : List Row
+instead_table =
     -- the kind of a block without a sheet: a reach, an inflow, and the last one, a confluence
     row (sheet pond 2 0) (bytes "NO SHEET 4\n") ∷
     row (sheet pond 3 0) (bytes "NO SHEET 2\n") ∷
@@ -189,7 +189,7 @@ insteadTable =
     row (sheet (bytes "X\n" ++ replicate 59_999 10) 1 1) (bytes "REFUSED 2 0\n") ∷
     []
 
-pub instead : Agree insteadTable
+pub instead : Agree instead_table
 unfolding computing
 instead =
     (refl, (refl, (refl, (refl, (refl, (refl, (refl, (refl, (refl, (refl, (refl, (refl, tt))))))))))))

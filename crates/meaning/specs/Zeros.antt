@@ -6,12 +6,12 @@ use Rattle.std.proofs.Common.{sym, ap, ◌∙◌}
 use Rattle.meaning.specs.Words.{if◌then◌else◌, bytes, met}
 use Rattle.meaning.specs.Numbers.{Number, NoNumber, Decimal, number_of}
 use Rattle.meaning.specs.Records.{Item, BA, PI, LU, UI, QI, HC, RM, PB, RS, SV, SQ}
-use Rattle.meaning.specs.Blocks.{Block, Given, values_of, opened, cardOf, withCard}
+use Rattle.meaning.specs.Blocks.{Block, Given, values_of, opened, card_of, with_card}
 use Rattle.meaning.specs.Results.{Result}
 use Rattle.meaning.specs.Run.{Worked, Stopped, Done, worked}
-use Rattle.meaning.specs.Listing.{listingBy, listing}
+use Rattle.meaning.specs.Listing.{listing_by, listing}
 use Rattle.meaning.specs.Computing.{computing}
-use Rattle.meaning.specs.Pond.{pond, Row, row, Agree, refusalIn, timeIn, block_at}
+use Rattle.meaning.specs.Pond.{pond, Row, row, Agree, refusal_in, time_in, block_at}
 
 -- THE NUMBER READER. A number in figures: 1 where it has a minus and 0 where not, its digits as one number, its places. What is no number has none.
 abbrev figures : Number → List ℕ
@@ -22,8 +22,8 @@ abbrev read : String → List ℕ
 read text = figures (number_of (bytes text))
 
 -- Value and places are those that are left.
-abbrev leftTable : List Row
-leftTable =
+abbrev left_table : List Row
+left_table =
     -- of a fraction with a digit, and of one without
     row (read "1.500") (0 ∷ 15 ∷ 1 ∷ []) ∷
     row (read "1.50") (0 ∷ 15 ∷ 1 ∷ []) ∷
@@ -50,14 +50,14 @@ leftTable =
     row (read "0.0500") (0 ∷ 5 ∷ 2 ∷ []) ∷
     []
 
-pub left : Agree leftTable
+pub left : Agree left_table
 unfolding computing
 left =
     (refl, (refl, (refl, (refl, (refl, (refl, (refl, (refl, (refl, (refl, (refl, (refl, (refl, (refl, (refl, (refl, (refl, (refl, (refl, (refl, tt))))))))))))))))))))
 
 -- What is a number and what is none is as it was.
-abbrev digitsTable : List Row
-digitsTable =
+abbrev digits_table : List Row
+digits_table =
     -- nine digits at most, zeros counted: nine and ten, on both sides of the point, behind it and before it
     row (read "1.50000000") (0 ∷ 15 ∷ 1 ∷ []) ∷
     row (read "1.500000000") [] ∷
@@ -76,7 +76,7 @@ digitsTable =
     row (read "1.0-") [] ∷
     []
 
-pub all_digits : Agree digitsTable
+pub all_digits : Agree digits_table
 unfolding computing
 all_digits =
     (refl, (refl, (refl, (refl, (refl, (refl, (refl, (refl, (refl, (refl, (refl, (refl, (refl, (refl, tt))))))))))))))
@@ -100,8 +100,8 @@ zeroed =
     bytes "HC 2.0\n" ++
     bytes "ZZ\n"
 
-abbrev zeroedColumns : List ℕ
-zeroedColumns =
+abbrev zeroed_columns : List ℕ
+zeroed_columns =
     bytes "ID POND\n" ++
     bytes "IT  60.0                    4.00\n" ++
     bytes "KK UP\n" ++
@@ -123,79 +123,79 @@ result block area flow = record { block = block; held = record { area = area; fl
 
 abbrev up : Block
 up =
-    withCard BA (Given (150 ∷ []))
-    (withCard PI (Given (5_000 ∷ 3_000 ∷ 1_000 ∷ []))
-    (withCard LU (Given (5_000 ∷ 1_000 ∷ 0 ∷ []))
-    (withCard UI (Given (1_000 ∷ 400 ∷ [])) (opened (bytes "UP")))))
+    with_card BA (Given (150 ∷ []))
+    (with_card PI (Given (5_000 ∷ 3_000 ∷ 1_000 ∷ []))
+    (with_card LU (Given (5_000 ∷ 1_000 ∷ 0 ∷ []))
+    (with_card UI (Given (1_000 ∷ 400 ∷ [])) (opened (bytes "UP")))))
 
-abbrev pondDone : Worked
-pondDone =
+abbrev pond_done : Worked
+pond_done =
     Done (record { minutes = 60; ordinates = 4; ratio = 100; listed = [] })
     ((result up 150 (0 ∷ 120_000_000 ∷ 48_000_000 ∷ 0 ∷ []) ∷
-    result (withCard RM (Given (1 ∷ 100 ∷ 20 ∷ [])) (opened (bytes "RIV"))) 150 (0 ∷ 27_692_307 ∷ 82_082_840 ∷ 44_788_348 ∷ []) ∷
-    result (withCard QI (Given (100 ∷ 200 ∷ 200 ∷ 100 ∷ [])) (opened (bytes "SIDE"))) 0 (60_000_000 ∷ 120_000_000 ∷ 120_000_000 ∷ 60_000_000 ∷ []) ∷
-    result (withCard HC (Given (2 ∷ [])) (opened (bytes "OUT"))) 150 (60_000_000 ∷ 147_692_307 ∷ 202_082_840 ∷ 104_788_348 ∷ []) ∷ []) ∷ [])
+    result (with_card RM (Given (1 ∷ 100 ∷ 20 ∷ [])) (opened (bytes "RIV"))) 150 (0 ∷ 27_692_307 ∷ 82_082_840 ∷ 44_788_348 ∷ []) ∷
+    result (with_card QI (Given (100 ∷ 200 ∷ 200 ∷ 100 ∷ [])) (opened (bytes "SIDE"))) 0 (60_000_000 ∷ 120_000_000 ∷ 120_000_000 ∷ 60_000_000 ∷ []) ∷
+    result (with_card HC (Given (2 ∷ [])) (opened (bytes "OUT"))) 150 (60_000_000 ∷ 147_692_307 ∷ 202_082_840 ∷ 104_788_348 ∷ []) ∷ []) ∷ [])
 
-pub in-free-form : worked zeroed ≡ pondDone
+pub in_free_form : worked zeroed ≡ pond_done
 unfolding computing
-in-free-form = refl
+in_free_form = refl
 
-pub in-columns : worked zeroedColumns ≡ pondDone
+pub in-columns : worked zeroed_columns ≡ pond_done
 unfolding computing
 in-columns = refl
 
-pub as-printed : worked pond ≡ pondDone
+pub as_printed : worked pond ≡ pond_done
 unfolding computing
-as-printed = refl
+as_printed = refl
 
 -- The records that it lacks, JR, PB and a pond's: a basin and a pond behind it, in as few digits as may be and with zeros past the places.
 abbrev storm : List ℕ
 storm = bytes "*FREE\nIT 60,,,2\nJR PREC,.5,1\nKK A\nBA 1.5\nPB 1\nPI 1,2\nLU .1,.1\nUI 17.1\nKK P\nRS 1,STOR\nSV 0,1\nSQ 0,10\nZZ\n"
 
-abbrev zeroedStorm : List ℕ
-zeroedStorm =
+abbrev zeroed_storm : List ℕ
+zeroed_storm =
     bytes "*FREE\nIT 60.0,,,2.0\nJR PREC,0.500,1.0000\n" ++
     bytes "KK A\nBA 1.500\nPB 1.00000\nPI 1.00000,2.00000\nLU 0.10000,0.10000,0.000\nUI 17.100\n" ++
     bytes "KK P\nRS 1.0,STOR,0.0\nSV 0.000,1.000\nSQ .000,10.000\nZZ\n"
 
 abbrev wet : Block
 wet =
-    withCard BA (Given (150 ∷ []))
-    (withCard PB (Given (10_000 ∷ []))
-    (withCard PI (Given (10_000 ∷ 20_000 ∷ []))
-    (withCard LU (Given (1_000 ∷ 1_000 ∷ 0 ∷ []))
-    (withCard UI (Given (1_710 ∷ [])) (opened (bytes "A"))))))
+    with_card BA (Given (150 ∷ []))
+    (with_card PB (Given (10_000 ∷ []))
+    (with_card PI (Given (10_000 ∷ 20_000 ∷ []))
+    (with_card LU (Given (1_000 ∷ 1_000 ∷ 0 ∷ []))
+    (with_card UI (Given (1_710 ∷ [])) (opened (bytes "A"))))))
 
 abbrev lake : Block
-lake = withCard RS (Given (1 ∷ 0x53_54_4F_52 ∷ 0 ∷ [])) (withCard SV (Given (0 ∷ 100 ∷ [])) (withCard SQ (Given (0 ∷ 1_000 ∷ [])) (opened (bytes "P"))))
+lake = with_card RS (Given (1 ∷ 0x53_54_4F_52 ∷ 0 ∷ [])) (with_card SV (Given (0 ∷ 100 ∷ [])) (with_card SQ (Given (0 ∷ 1_000 ∷ [])) (opened (bytes "P"))))
 
-abbrev stormDone : Worked
-stormDone =
+abbrev storm_done : Worked
+storm_done =
     Done (record { minutes = 60; ordinates = 2; ratio = 100; listed = 50 ∷ 100 ∷ [] })
     ((result wet 150 (0 ∷ 239_400_000 ∷ []) ∷ result lake 150 (0 ∷ 70_000_000 ∷ []) ∷ []) ∷
     (result wet 150 (136_800_000 ∷ 581_400_000 ∷ []) ∷ result lake 150 (0 ∷ 210_000_000 ∷ []) ∷ []) ∷ [])
 
-pub storm-with-zeros : worked zeroedStorm ≡ stormDone
+pub storm_with_zeros : worked zeroed_storm ≡ storm_done
 unfolding computing
-storm-with-zeros = refl
+storm_with_zeros = refl
 
-pub storm-without : worked storm ≡ stormDone
+pub storm_without : worked storm ≡ storm_done
 unfolding computing
-storm-without = refl
+storm_without = refl
 
 -- TWO DECKS THAT DIFFER IN TRAILING ZEROS ALONE are worked to the same, and so listed alike. (What each is worked to stands between them, since that is quick to check.)
-pub same-worked : worked zeroed ≡ worked pond
-same-worked = in-free-form ∙ sym as-printed
+pub same_worked : worked zeroed ≡ worked pond
+same_worked = in_free_form ∙ sym as_printed
 
-pub same-in-columns : worked zeroedColumns ≡ worked pond
-same-in-columns = in-columns ∙ sym as-printed
+pub same_in_columns : worked zeroed_columns ≡ worked pond
+same_in_columns = in-columns ∙ sym as_printed
 
-pub same-storm : worked zeroedStorm ≡ worked storm
-same-storm = storm-with-zeros ∙ sym storm-without
+pub same_storm : worked zeroed_storm ≡ worked storm
+same_storm = storm_with_zeros ∙ sym storm_without
 
-pub same-listing : listing zeroed ≡ listing pond
+pub same_listing : listing zeroed ≡ listing pond
 unfolding listing if◌then◌else◌
-same-listing = ap listingBy same-worked
+same_listing = ap listing_by same_worked
 
 -- WHAT IS REFUSED STILL, and what is just within its limits. Decks with these fields on IT, on line 2; with these ratios on line 3; with these values for rain, or for an inflow.
 abbrev timed : String → List ℕ
@@ -211,9 +211,9 @@ abbrev inflow : String → List ℕ
 inflow values = bytes "*FREE\nIT 60,,,3\nKK A\nQI " ++ bytes values ++ bytes "\nZZ\n"
 
 -- The values that the first block has under a record.
-abbrev valuesIn : Item → Worked → List ℕ
-valuesIn item (Stopped number line) = []
-valuesIn item (Done τ rss) = values_of (cardOf item (block_at 1 rss))
+abbrev values_in : Item → Worked → List ℕ
+values_in item (Stopped number line) = []
+values_in item (Done τ rss) = values_of (card_of item (block_at 1 rss))
 
 -- With this record in a block, on line 4; and in columns, on line 3.
 abbrev carded : String → List ℕ
@@ -223,99 +223,99 @@ abbrev columned : String → List ℕ
 columned line = bytes "IT  60.0                    4.00\nKK A\n" ++ bytes line
 
 -- Their refusals.
-abbrev refusedOnIT : String → List ℕ
-refusedOnIT fields = refusalIn (worked (timed fields))
+abbrev refused_on_it : String → List ℕ
+refused_on_it fields = refusal_in (worked (timed fields))
 
-abbrev refusedOnJR : String → List ℕ
-refusedOnJR ratios = refusalIn (worked (rated ratios))
+abbrev refused_on_jr : String → List ℕ
+refused_on_jr ratios = refusal_in (worked (rated ratios))
 
-abbrev refusedOn : String → List ℕ
-refusedOn line = refusalIn (worked (carded line))
+abbrev refused_on : String → List ℕ
+refused_on line = refusal_in (worked (carded line))
 
 -- 6: a digit past the places that is no zero, be there zeros before it or behind it.
-abbrev sixTable : List Row
-sixTable =
-    row (refusedOnIT "60.5,,,4") (6 ∷ 2 ∷ []) ∷
-    row (refusedOnIT "60.50,,,4") (6 ∷ 2 ∷ []) ∷
-    row (refusedOnIT "60.01,,,4") (6 ∷ 2 ∷ []) ∷
-    row (refusedOnIT "60,,,4.5") (6 ∷ 2 ∷ []) ∷
-    row (refusedOnJR "0.125") (6 ∷ 3 ∷ []) ∷
-    row (refusedOnJR "1,0.1250") (6 ∷ 3 ∷ []) ∷
-    row (refusedOn "BA 1.5010") (6 ∷ 4 ∷ []) ∷
-    row (refusedOn "PI 1,0.000010") (6 ∷ 4 ∷ []) ∷
-    row (refusedOn "LU 0.00001") (6 ∷ 4 ∷ []) ∷
-    row (refusedOn "LU 0,0.000010") (6 ∷ 4 ∷ []) ∷
-    row (refusedOn "LU 0,0,0.001") (6 ∷ 4 ∷ []) ∷
-    row (refusedOn "UI 1.501") (6 ∷ 4 ∷ []) ∷
-    row (refusedOn "UI 1.5010") (6 ∷ 4 ∷ []) ∷
-    row (refusedOn "QI 1,1.001") (6 ∷ 4 ∷ []) ∷
-    row (refusedOn "HC 2.5") (6 ∷ 4 ∷ []) ∷
-    row (refusedOn "RM 1.5,1,0") (6 ∷ 4 ∷ []) ∷
-    row (refusedOn "RM 1,1.0010,0") (6 ∷ 4 ∷ []) ∷
-    row (refusedOn "RM 1,1,0.201") (6 ∷ 4 ∷ []) ∷
-    row (refusedOn "PB 1.000010") (6 ∷ 4 ∷ []) ∷
-    row (refusedOn "RS 1.5,STOR") (6 ∷ 4 ∷ []) ∷
-    row (refusedOn "RS 1,STOR,0.50") (6 ∷ 4 ∷ []) ∷
-    row (refusedOn "SV 0,1.0010") (6 ∷ 4 ∷ []) ∷
-    row (refusedOn "SQ 0,1.001") (6 ∷ 4 ∷ []) ∷
+abbrev six_table : List Row
+six_table =
+    row (refused_on_it "60.5,,,4") (6 ∷ 2 ∷ []) ∷
+    row (refused_on_it "60.50,,,4") (6 ∷ 2 ∷ []) ∷
+    row (refused_on_it "60.01,,,4") (6 ∷ 2 ∷ []) ∷
+    row (refused_on_it "60,,,4.5") (6 ∷ 2 ∷ []) ∷
+    row (refused_on_jr "0.125") (6 ∷ 3 ∷ []) ∷
+    row (refused_on_jr "1,0.1250") (6 ∷ 3 ∷ []) ∷
+    row (refused_on "BA 1.5010") (6 ∷ 4 ∷ []) ∷
+    row (refused_on "PI 1,0.000010") (6 ∷ 4 ∷ []) ∷
+    row (refused_on "LU 0.00001") (6 ∷ 4 ∷ []) ∷
+    row (refused_on "LU 0,0.000010") (6 ∷ 4 ∷ []) ∷
+    row (refused_on "LU 0,0,0.001") (6 ∷ 4 ∷ []) ∷
+    row (refused_on "UI 1.501") (6 ∷ 4 ∷ []) ∷
+    row (refused_on "UI 1.5010") (6 ∷ 4 ∷ []) ∷
+    row (refused_on "QI 1,1.001") (6 ∷ 4 ∷ []) ∷
+    row (refused_on "HC 2.5") (6 ∷ 4 ∷ []) ∷
+    row (refused_on "RM 1.5,1,0") (6 ∷ 4 ∷ []) ∷
+    row (refused_on "RM 1,1.0010,0") (6 ∷ 4 ∷ []) ∷
+    row (refused_on "RM 1,1,0.201") (6 ∷ 4 ∷ []) ∷
+    row (refused_on "PB 1.000010") (6 ∷ 4 ∷ []) ∷
+    row (refused_on "RS 1.5,STOR") (6 ∷ 4 ∷ []) ∷
+    row (refused_on "RS 1,STOR,0.50") (6 ∷ 4 ∷ []) ∷
+    row (refused_on "SV 0,1.0010") (6 ∷ 4 ∷ []) ∷
+    row (refused_on "SQ 0,1.001") (6 ∷ 4 ∷ []) ∷
     []
 
-pub six : Agree sixTable
+pub six : Agree six_table
 unfolding computing
 six =
     (refl, (refl, (refl, (refl, (refl, (refl, (refl, (refl, (refl, (refl, (refl, (refl, (refl, (refl, (refl, (refl, (refl, (refl, (refl, (refl, (refl, (refl, (refl, tt)))))))))))))))))))))))
 
 -- 7 looks at the value: over the limits, whatever zeros are behind it.
-abbrev sevenTable : List Row
-sevenTable =
-    row (refusedOnIT "1441.0,,,4") (7 ∷ 2 ∷ []) ∷
-    row (refusedOnIT "60,,,301.0") (7 ∷ 2 ∷ []) ∷
-    row (refusedOnIT "60,,,0.0") (7 ∷ 2 ∷ []) ∷
-    row (refusedOnJR "0.000") (7 ∷ 3 ∷ []) ∷
-    row (refusedOnJR "1,10.000") (7 ∷ 3 ∷ []) ∷
-    row (refusedOn "BA 0.000") (7 ∷ 4 ∷ []) ∷
-    row (refusedOn "BA 10000.000") (7 ∷ 4 ∷ []) ∷
-    row (refusedOn "PI 20.00010") (7 ∷ 4 ∷ []) ∷
-    row (refusedOn "LU 20.00010") (7 ∷ 4 ∷ []) ∷
-    row (refusedOn "LU 0,20.00010") (7 ∷ 4 ∷ []) ∷
-    row (refusedOn "LU 0,0,0.01") (7 ∷ 4 ∷ []) ∷
-    row (refusedOn "UI 100000.000") (7 ∷ 4 ∷ []) ∷
-    row (refusedOn "QI 100000.010") (7 ∷ 4 ∷ []) ∷
-    row (refusedOn "QI -0.10") (7 ∷ 4 ∷ []) ∷
-    row (refusedOn "HC 6.0") (7 ∷ 4 ∷ []) ∷
-    row (refusedOn "HC 1.0") (7 ∷ 4 ∷ []) ∷
-    row (refusedOn "RM 51.0,1,0") (7 ∷ 4 ∷ []) ∷
-    row (refusedOn "RM 1,24.010,0") (7 ∷ 4 ∷ []) ∷
-    row (refusedOn "RM 1,1,0.510") (7 ∷ 4 ∷ []) ∷
-    row (refusedOn "PB 100.00010") (7 ∷ 4 ∷ []) ∷
-    row (refusedOn "RS 2.0,STOR") (7 ∷ 4 ∷ []) ∷
-    row (refusedOn "RS 1,STOR,1.0") (7 ∷ 4 ∷ []) ∷
-    row (refusedOn "SV 100000.000") (7 ∷ 4 ∷ []) ∷
-    row (refusedOn "SQ 100000.010") (7 ∷ 4 ∷ []) ∷
+abbrev seven_table : List Row
+seven_table =
+    row (refused_on_it "1441.0,,,4") (7 ∷ 2 ∷ []) ∷
+    row (refused_on_it "60,,,301.0") (7 ∷ 2 ∷ []) ∷
+    row (refused_on_it "60,,,0.0") (7 ∷ 2 ∷ []) ∷
+    row (refused_on_jr "0.000") (7 ∷ 3 ∷ []) ∷
+    row (refused_on_jr "1,10.000") (7 ∷ 3 ∷ []) ∷
+    row (refused_on "BA 0.000") (7 ∷ 4 ∷ []) ∷
+    row (refused_on "BA 10000.000") (7 ∷ 4 ∷ []) ∷
+    row (refused_on "PI 20.00010") (7 ∷ 4 ∷ []) ∷
+    row (refused_on "LU 20.00010") (7 ∷ 4 ∷ []) ∷
+    row (refused_on "LU 0,20.00010") (7 ∷ 4 ∷ []) ∷
+    row (refused_on "LU 0,0,0.01") (7 ∷ 4 ∷ []) ∷
+    row (refused_on "UI 100000.000") (7 ∷ 4 ∷ []) ∷
+    row (refused_on "QI 100000.010") (7 ∷ 4 ∷ []) ∷
+    row (refused_on "QI -0.10") (7 ∷ 4 ∷ []) ∷
+    row (refused_on "HC 6.0") (7 ∷ 4 ∷ []) ∷
+    row (refused_on "HC 1.0") (7 ∷ 4 ∷ []) ∷
+    row (refused_on "RM 51.0,1,0") (7 ∷ 4 ∷ []) ∷
+    row (refused_on "RM 1,24.010,0") (7 ∷ 4 ∷ []) ∷
+    row (refused_on "RM 1,1,0.510") (7 ∷ 4 ∷ []) ∷
+    row (refused_on "PB 100.00010") (7 ∷ 4 ∷ []) ∷
+    row (refused_on "RS 2.0,STOR") (7 ∷ 4 ∷ []) ∷
+    row (refused_on "RS 1,STOR,1.0") (7 ∷ 4 ∷ []) ∷
+    row (refused_on "SV 100000.000") (7 ∷ 4 ∷ []) ∷
+    row (refused_on "SQ 100000.010") (7 ∷ 4 ∷ []) ∷
     []
 
-pub seven : Agree sevenTable
+pub seven : Agree seven_table
 unfolding computing
 seven =
     (refl, (refl, (refl, (refl, (refl, (refl, (refl, (refl, (refl, (refl, (refl, (refl, (refl, (refl, (refl, (refl, (refl, (refl, (refl, (refl, (refl, (refl, (refl, (refl, tt))))))))))))))))))))))))
 
 -- Beside these: what is just within its limits; 0 with a sign; ten digits, which are 6; and 6 and 7 in columns.
-abbrev edgesTable : List Row
-edgesTable =
-    row (timeIn (worked (timed "1440.0,,,1.0"))) (1_440 ∷ 1 ∷ []) ∷
-    row (timeIn (worked (rated "0.010,9.990"))) (60 ∷ 1 ∷ 1 ∷ 999 ∷ []) ∷
-    row (valuesIn PI (worked (basin "20.00000"))) (200_000 ∷ []) ∷
-    row (valuesIn QI (worked (inflow "100000.000,-0.0,-.00"))) (10_000_000 ∷ 0 ∷ 0 ∷ []) ∷
-    row (refusedOnIT "60.00000000,,,4") (6 ∷ 2 ∷ []) ∷
-    row (refusedOn "UI 1.500000000") (6 ∷ 4 ∷ []) ∷
-    row (refusedOn "LU 0,0,0.000000000") (6 ∷ 4 ∷ []) ∷
-    row (refusalIn (worked (bytes "IT  60.5                       4"))) (6 ∷ 1 ∷ []) ∷
-    row (refusalIn (worked (bytes "IT1441.0                       4"))) (7 ∷ 1 ∷ []) ∷
-    row (refusalIn (worked (columned "UI 1.500  1.5010"))) (6 ∷ 3 ∷ []) ∷
-    row (refusalIn (worked (columned "QI 1.000   -0.10"))) (7 ∷ 3 ∷ []) ∷
+abbrev edges_table : List Row
+edges_table =
+    row (time_in (worked (timed "1440.0,,,1.0"))) (1_440 ∷ 1 ∷ []) ∷
+    row (time_in (worked (rated "0.010,9.990"))) (60 ∷ 1 ∷ 1 ∷ 999 ∷ []) ∷
+    row (values_in PI (worked (basin "20.00000"))) (200_000 ∷ []) ∷
+    row (values_in QI (worked (inflow "100000.000,-0.0,-.00"))) (10_000_000 ∷ 0 ∷ 0 ∷ []) ∷
+    row (refused_on_it "60.00000000,,,4") (6 ∷ 2 ∷ []) ∷
+    row (refused_on "UI 1.500000000") (6 ∷ 4 ∷ []) ∷
+    row (refused_on "LU 0,0,0.000000000") (6 ∷ 4 ∷ []) ∷
+    row (refusal_in (worked (bytes "IT  60.5                       4"))) (6 ∷ 1 ∷ []) ∷
+    row (refusal_in (worked (bytes "IT1441.0                       4"))) (7 ∷ 1 ∷ []) ∷
+    row (refusal_in (worked (columned "UI 1.500  1.5010"))) (6 ∷ 3 ∷ []) ∷
+    row (refusal_in (worked (columned "QI 1.000   -0.10"))) (7 ∷ 3 ∷ []) ∷
     []
 
-pub edges : Agree edgesTable
+pub edges : Agree edges_table
 unfolding computing
 edges =
     (refl, (refl, (refl, (refl, (refl, (refl, (refl, (refl, (refl, (refl, (refl, tt)))))))))))

@@ -2,17 +2,17 @@
 --     case-of     three numbers that stand there are the case
 use Rattle.std.specs.Prelude.{ℕ, ◌≡◌, List}
 use Rattle.sequences.specs.Parts.{part}
-use Rattle.slices.specs.Bytes.{fromLittleEndian}
+use Rattle.slices.specs.Bytes.{from_little_endian}
 use Rattle.moves.specs.declared.Case.{Case}
 
-abbrev pub moveCaseOf : List ℕ → Case
-moveCaseOf b =
+abbrev pub move_case_of : List ℕ → Case
+move_case_of b =
     record {
-      direction = fromLittleEndian (part 0 4 b);
-      room = fromLittleEndian (part 4 4 b);
-      size = fromLittleEndian (part 8 4 b);
+      direction = from_little_endian (part 0 4 b);
+      room = from_little_endian (part 4 4 b);
+      size = from_little_endian (part 8 4 b);
     }
 
-pub case-of : (b : List ℕ) {direction room size : ℕ} → direction ≡ fromLittleEndian (part 0 4 b) → room ≡ fromLittleEndian (part 4 4 b) → size ≡ fromLittleEndian (part 8 4 b)
-    → record { direction = direction; room = room; size = size } ≡ moveCaseOf b
+pub case-of : (b : List ℕ) {direction room size : ℕ} → direction ≡ from_little_endian (part 0 4 b) → room ≡ from_little_endian (part 4 4 b) → size ≡ from_little_endian (part 8 4 b)
+    → record { direction = direction; room = room; size = size } ≡ move_case_of b
 case-of b d r n = rw (d, r, n)

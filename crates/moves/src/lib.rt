@@ -1,11 +1,11 @@
 // A case of the program `mover`: what it says before its file, and what is printed of it.
 ghost use Rattle.std.specs.Prelude.{◌≡◌, ◌≤◌, length};
-ghost use Rattle.moving.specs.Answers.{moveIs, outcomeIs};
+ghost use Rattle.moving.specs.Answers.{move_is, outcome_is};
 ghost use Rattle.text.specs.Written.{Written};
 ghost use Rattle.text.specs.Counted.{Counted};
-ghost use Rattle.moves.specs.Case.{moveCaseOf};
-ghost use Rattle.moves.specs.Sizes.{answerSize, moveSize};
-ghost use Rattle.moves.specs.Text.{move_line, moveText};
+ghost use Rattle.moves.specs.Case.{move_case_of};
+ghost use Rattle.moves.specs.Sizes.{answer_size, move_size};
+ghost use Rattle.moves.specs.Text.{move_line, move_text};
 
 use moving::Move;
 
@@ -27,7 +27,7 @@ pub struct Case {
 // Three numbers, each in 4 bytes, the lowest first.
 pub fn read_move(b: &[u8]) -> Case
     requires { 12 ≤ length b.now }
-    ensures { result ≡ moveCaseOf b.now }
+    ensures { result ≡ move_case_of b.now }
 {
     Case {
         direction: slices::number_at(b, 0),
@@ -38,9 +38,9 @@ pub fn read_move(b: &[u8]) -> Case
 
 // The line of the answer.
 fn write_answer(out: &mut [u8], answer: Move) -> usize
-    requires { answerSize ≤ length out.old }
-    ensures text { Written out.old 0 (move_line (moveIs answer)) out.new result }
-    ensures short { result ≤ answerSize }
+    requires { answer_size ≤ length out.old }
+    ensures text { Written out.old 0 (move_line (move_is answer)) out.new result }
+    ensures short { result ≤ answer_size }
 {
     match answer {
         Move::Moved(count) => text::write_told(out, 0, b"MOVED ", count as u64),
@@ -50,8 +50,8 @@ fn write_answer(out: &mut [u8], answer: Move) -> usize
 
 // What is printed of a case.
 pub fn write_move(out: &mut [u8], answer: Move, room: &[u8]) -> usize
-    requires { moveSize (length room.now) ≤ length out.old }
-    ensures text { Written out.old 0 (moveText (outcomeIs answer room.now)) out.new result }
+    requires { move_size (length room.now) ≤ length out.old }
+    ensures text { Written out.old 0 (move_text (outcome_is answer room.now)) out.new result }
     ensures counted { Counted result out.new }
 {
     let bytes = write_answer(out, answer);

@@ -1,7 +1,7 @@
 -- A file's records, of any size: what a loop that goes from one to the next knows of those that are left.
---     first-record, no_record        a file that has one whole record at least, and one that has none
---     records-more, records-none     the same from a place on
---     movedBy                        the records, each put into another form, one behind another
+--     first_record, no_record        a file that has one whole record at least, and one that has none
+--     records_more, records_none     the same from a place on
+--     moved_by                        the records, each put into another form, one behind another
 --     length_moved                   how many bytes these are, where the form makes so many of a record
 use Prim.Native.Nat.{ℕ, zero, suc, ◌+◌, ◌-◌, ◌*◌, ◌/◌, ◌≤◌, ◌<◌}
 use Rattle.std.specs.Prelude.{◌≡◌, List, [], ◌∷◌, map, take, drop}
@@ -10,37 +10,37 @@ use Rattle.std.proofs.Math.Path.{ap}
 use Rattle.std.proofs.Math.Nat.{div-eq-sub-div, div-eq_of_lt}
 use Rattle.std.proofs.Math.Numerals.{add-one}
 use Rattle.std.proofs.Math.ListN.{length}
-use Rattle.meaning.specs.Moving.{recordsFrom, recordsIn, joined}
+use Rattle.meaning.specs.Moving.{records_from, records_in, joined}
 use Rattle.forms.specs.Forms.{Makes}
 
 module _ (size : ℕ) where
-  pub first-record : (file : List ℕ) → 0 < size → size ≤ length file → recordsIn size file ≡ take size file ∷ recordsIn size (drop size file)
-  unfolding recordsIn
-  first-record file some whole =
+  pub first_record : (file : List ℕ) → 0 < size → size ≤ length file → records_in size file ≡ take size file ∷ records_in size (drop size file)
+  unfolding records_in
+  first_record file some whole =
       let count : length file / size ≡ suc (length (drop size file) / size) =
       div-eq-sub-div some whole ∙ add-one ((length file - size) / size) ∙ ap (λ (n : ℕ). suc (n / size)) (sym (length-drop size file)) in
-      ap (λ (n : ℕ). recordsFrom size n file) count
+      ap (λ (n : ℕ). records_from size n file) count
 
-  pub no_record : (file : List ℕ) → length file < size → recordsIn size file ≡ []
-  unfolding recordsIn
-  no_record file short = ap (λ (n : ℕ). recordsFrom size n file) (div-eq_of_lt short)
+  pub no_record : (file : List ℕ) → length file < size → records_in size file ≡ []
+  unfolding records_in
+  no_record file short = ap (λ (n : ℕ). records_from size n file) (div-eq_of_lt short)
 
-  pub records-more : (file : List ℕ) (p : ℕ) → 0 < size → p + size ≤ length file
-      → recordsIn size (drop p file) ≡ take size (drop p file) ∷ recordsIn size (drop (p + size) file)
-  records-more file p some whole =
+  pub records_more : (file : List ℕ) (p : ℕ) → 0 < size → p + size ≤ length file
+      → records_in size (drop p file) ≡ take size (drop p file) ∷ records_in size (drop (p + size) file)
+  records_more file p some whole =
       let left : size ≤ length (drop p file) = simp length-drop (omega arith) in
-      first-record (drop p file) some left ∙ ap (λ (l : List ℕ). take size (drop p file) ∷ recordsIn size l) (drop-drop size p file)
+      first_record (drop p file) some left ∙ ap (λ (l : List ℕ). take size (drop p file) ∷ records_in size l) (drop-drop size p file)
 
-  pub records-none : (file : List ℕ) (p : ℕ) → 0 < size → length file < p + size → recordsIn size (drop p file) ≡ []
-  records-none file p some short =
+  pub records_none : (file : List ℕ) (p : ℕ) → 0 < size → length file < p + size → records_in size (drop p file) ≡ []
+  records_none file p some short =
       let left : length (drop p file) < size = simp length-drop (omega arith) in
       no_record (drop p file) left
 
-unfoldable pub movedBy : (form : List ℕ → List ℕ) → (size : ℕ) → List ℕ → List ℕ
-movedBy form size file = joined (map form (recordsIn size file))
+unfoldable pub moved_by : (form : List ℕ → List ℕ) → (size : ℕ) → List ℕ → List ℕ
+moved_by form size file = joined (map form (records_in size file))
 
 module _ (form : List ℕ → List ℕ) (size to : ℕ) (makes : Makes form size to) where
-  length_from : (count : ℕ) (file : List ℕ) → count * size ≤ length file → length (joined (map form (recordsFrom size count file))) ≡ count * to
+  length_from : (count : ℕ) (file : List ℕ) → count * size ≤ length file → length (joined (map form (records_from size count file))) ≡ count * to
   length_from zero file enough = omega arith
   length_from (suc count) file enough =
       let apart : size + count * size ≤ length file = omega (arith, suc-mul count size) in
@@ -48,6 +48,6 @@ module _ (form : List ℕ → List ℕ) (size to : ℕ) (makes : Makes form size
       let left : count * size ≤ length (drop size file) = simp length-drop (omega arith) in
       simp length-append (omega (arith, makes (take size file) (length-take-le size file one), length_from count (drop size file) left, suc-mul count to))
 
-  pub length_moved : (file : List ℕ) → length (movedBy form size file) ≡ length file / size * to
-  unfolding movedBy recordsIn
+  pub length_moved : (file : List ℕ) → length (moved_by form size file) ≡ length file / size * to
+  unfolding moved_by records_in
   length_moved file = length_from (length file / size) file (div-mul-le_self (length file) size)

@@ -1,13 +1,13 @@
 // The mover: a result file from the old form to the new, and back, between lent bytes.
 ghost use Rattle.std.specs.Prelude.{◌≡◌, ◌≤◌, length, take};
 ghost use Rattle.meaning.specs.Words.{◌<?◌, met, first};
-ghost use Rattle.meaning.specs.Results.{recordSize, oldRecordSize};
-ghost use Rattle.meaning.specs.Moving.{newForm, oldForm, recordsIn, toNew, toOld};
-ghost use Rattle.moving.specs.Answers.{outcomeIs, refusedIn, movedIn};
-ghost use Rattle.moving.specs.Records.{movedBy};
+ghost use Rattle.meaning.specs.Results.{record_size, old_record_size};
+ghost use Rattle.meaning.specs.Moving.{new_form, old_form, records_in, to_new, to_old};
+ghost use Rattle.moving.specs.Answers.{outcome_is, refused_in, moved_in};
+ghost use Rattle.moving.specs.Records.{moved_by};
 ghost use Rattle.moving.specs.Loops.{MovedTo};
-ghost use Rattle.moving.specs.Faults.{newFaults, oldFaults};
-ghost use Rattle.moving.specs.Ways.{refusalOf};
+ghost use Rattle.moving.specs.Faults.{new_faults, old_faults};
+ghost use Rattle.moving.specs.Ways.{refusal_of};
 
 use results::{OLD, RECORD};
 
@@ -27,7 +27,7 @@ fn keep_first(found: u64, next: u64) -> u64
 
 // What an old file is refused for by its records.
 fn find_filled(file: &[u8]) -> u64
-    ensures { result ≡ newFaults (recordsIn oldRecordSize file.now) }
+    ensures { result ≡ new_faults (records_in old_record_size file.now) }
 {
     let mut at = 0;
     while at + OLD <= file.len() {
@@ -41,7 +41,7 @@ fn find_filled(file: &[u8]) -> u64
 
 // What a new file is refused for by its records. 2 in a later record comes before 3 in an earlier one, so a 3 is noted and the loop goes on.
 fn find_fault(file: &[u8]) -> u64
-    ensures { result ≡ oldFaults (recordsIn recordSize file.now) }
+    ensures { result ≡ old_faults (records_in record_size file.now) }
 {
     let mut found = 0;
     let mut at = 0;
@@ -65,7 +65,7 @@ fn check_room(moved: usize, room: usize) -> u64
 
 // What an old file is refused for, with so much room; 0 for nothing.
 fn judge_old_file(file: &[u8], room: usize) -> u64
-    ensures { result ≡ refusalOf oldRecordSize newForm newFaults file.now room }
+    ensures { result ≡ refusal_of old_record_size new_form new_faults file.now room }
 {
     let size = file.len();
     if size % OLD != 0 {
@@ -78,7 +78,7 @@ fn judge_old_file(file: &[u8], room: usize) -> u64
 
 // What a new file is refused for, with so much room; 0 for nothing.
 fn judge_new_file(file: &[u8], room: usize) -> u64
-    ensures { result ≡ refusalOf recordSize oldForm oldFaults file.now room }
+    ensures { result ≡ refusal_of record_size old_form old_faults file.now room }
 {
     let size = file.len();
     if size % RECORD != 0 {
@@ -91,8 +91,8 @@ fn judge_new_file(file: &[u8], room: usize) -> u64
 
 // Every record of an old file in the new form, from the front of the room on; how many bytes they are.
 fn move_old_file(file: &[u8], room: &mut [u8]) -> usize
-    requires { length (movedBy newForm oldRecordSize file.now) ≤ length room.old }
-    ensures { MovedTo (movedBy newForm oldRecordSize file.now) room.old room.new result }
+    requires { length (moved_by new_form old_record_size file.now) ≤ length room.old }
+    ensures { MovedTo (moved_by new_form old_record_size file.now) room.old room.new result }
 {
     let mut q = 0;
     let mut p = 0;
@@ -106,8 +106,8 @@ fn move_old_file(file: &[u8], room: &mut [u8]) -> usize
 
 // Every record of a new file in the old form, from the front of the room on; how many bytes they are.
 fn move_new_file(file: &[u8], room: &mut [u8]) -> usize
-    requires { length (movedBy oldForm recordSize file.now) ≤ length room.old }
-    ensures { MovedTo (movedBy oldForm recordSize file.now) room.old room.new result }
+    requires { length (moved_by old_form record_size file.now) ≤ length room.old }
+    ensures { MovedTo (moved_by old_form record_size file.now) room.old room.new result }
 {
     let mut q = 0;
     let mut p = 0;
@@ -121,7 +121,7 @@ fn move_new_file(file: &[u8], room: &mut [u8]) -> usize
 
 // Nothing is left in the room.
 fn refuse(number: u64, room: &mut [u8]) -> Move
-    ensures { outcomeIs result room.new ≡ refusedIn number (length room.old) }
+    ensures { outcome_is result room.new ≡ refused_in number (length room.old) }
 {
     slices::fill_bytes(room, 0);
     Move::Refused(number)
@@ -130,7 +130,7 @@ fn refuse(number: u64, room: &mut [u8]) -> Move
 // The first `n` bytes of the room were moved; nothing is left behind them.
 fn settle(n: usize, room: &mut [u8]) -> Move
     requires { n ≤ length room.old }
-    ensures { outcomeIs result room.new ≡ movedIn (take n room.old) (length room.old) }
+    ensures { outcome_is result room.new ≡ moved_in (take n room.old) (length room.old) }
 {
     slices::fill_bytes(&mut room[n..], 0);
     Move::Moved(n)
@@ -138,7 +138,7 @@ fn settle(n: usize, room: &mut [u8]) -> Move
 
 // A result file from the old form to the new. Nothing is moved before the whole file and the room are found good.
 pub fn to_new(file: &[u8], room: &mut [u8]) -> Move
-    ensures { outcomeIs result room.new ≡ toNew file.now (length room.old) }
+    ensures { outcome_is result room.new ≡ to_new file.now (length room.old) }
 {
     let number = judge_old_file(file, room.len());
     if number != 0 {
@@ -150,7 +150,7 @@ pub fn to_new(file: &[u8], room: &mut [u8]) -> Move
 
 // A result file from the new form to the old. Nothing is moved before the whole file and the room are found good.
 pub fn to_old(file: &[u8], room: &mut [u8]) -> Move
-    ensures { outcomeIs result room.new ≡ toOld file.now (length room.old) }
+    ensures { outcome_is result room.new ≡ to_old file.now (length room.old) }
 {
     let number = judge_new_file(file, room.len());
     if number != 0 {

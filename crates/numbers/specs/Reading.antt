@@ -1,26 +1,26 @@
 -- What the answers mean, and what the runs of digits in a number are.
 use Rattle.std.specs.Prelude.{ℕ, ◌+◌, Bool, ◌&&◌, List, take, drop}
 use Rattle.meaning.specs.Words.{◌≤?◌, if◌then◌else◌}
-use Rattle.meaning.specs.Numbers.{isSign, isDigit, read_on}
+use Rattle.meaning.specs.Numbers.{is_sign, is_digit, read_on}
 use Rattle.meaning.specs.Numbers as meaning
 use Rattle.sequences.specs.Runs.{run}
 use Rattle.numbers.specs.declared.Digits.{Digits}
 use Rattle.numbers.specs.declared.Number.{Number}
 use Rattle.numbers.specs.declared.Number.TheVariants.{NoNumber, Decimal}
 
-abbrev pub numberIs : Number → meaning.Number
-numberIs NoNumber = meaning.NoNumber
-numberIs (Decimal minus digits places) = meaning.Decimal minus digits places
+abbrev pub number_is : Number → meaning.Number
+number_is NoNumber = meaning.NoNumber
+number_is (Decimal minus digits places) = meaning.Decimal minus digits places
 
-unfoldable pub signLength : ℕ → ℕ
-signLength b = if isSign b then 1 else 0
+unfoldable pub sign_length : ℕ → ℕ
+sign_length b = if is_sign b then 1 else 0
 
 -- the digits from `at` on, read on behind a number
-abbrev pub digitsFrom : List ℕ → ℕ → ℕ → Digits
-digitsFrom s at start =
+abbrev pub digits_from : List ℕ → ℕ → ℕ → Digits
+digits_from s at start =
     record {
-      end = at + run isDigit (drop at s);
-      value = read_on start (take (run isDigit (drop at s)) (drop at s));
+      end = at + run is_digit (drop at s);
+      value = read_on start (take (run is_digit (drop at s)) (drop at s));
     }
 
 -- a number of so many digits: one at least and nine at most

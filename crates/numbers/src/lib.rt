@@ -1,9 +1,9 @@
 // Numbers as fields hold them: an optional sign, a run of digits, an optional point and a second run. What is read is the value and the places left
 // after trailing zeros of the fraction are taken off; how many places a field allows is not told here.
 ghost use Rattle.std.specs.Prelude.{◌≡◌, ◌^◌, ◌≤◌, ◌<◌, length};
-ghost use Rattle.meaning.specs.Fields.{trimEnd};
-ghost use Rattle.meaning.specs.Numbers.{is_zero, number_of, decimalOf};
-ghost use Rattle.numbers.specs.Reading.{numberIs, signLength, digitsFrom, counted};
+ghost use Rattle.meaning.specs.Fields.{trim_end};
+ghost use Rattle.meaning.specs.Numbers.{is_zero, number_of, decimal_of};
+ghost use Rattle.numbers.specs.Reading.{number_is, sign_length, digits_from, counted};
 
 // Nothing that is a number; or whether below 0, the digits that are left and how many of them stand behind the point.
 #[derive(Drop)]
@@ -22,7 +22,7 @@ pub struct Digits {
 // The run of digits that `s` begins with, read on behind `start`.
 fn read_digits(s: &[u8], start: u64) -> Digits
     requires { (length s.now ≤ 10) × (start < 10 ^ 9) }
-    ensures { result ≡ digitsFrom s.now 0 start }
+    ensures { result ≡ digits_from s.now 0 start }
 {
     let mut i = 0;
     let mut v = start;
@@ -42,7 +42,7 @@ fn read_digits(s: &[u8], start: u64) -> Digits
 
 // How many places are left of a fraction when its trailing zeros are taken off.
 fn places_left(fraction: &[u8]) -> usize
-    ensures { result ≡ length (trimEnd is_zero fraction.now) }
+    ensures { result ≡ length (trim_end is_zero fraction.now) }
 {
     let mut n = fraction.len();
     while 0 < n {
@@ -56,7 +56,7 @@ fn places_left(fraction: &[u8]) -> usize
 
 // A number without a fraction has one digit at least and nine at most.
 fn count_digits(minus: bool, digits: u64, count: usize) -> Number
-    ensures { numberIs result ≡ counted minus digits count 0 }
+    ensures { number_is result ≡ counted minus digits count 0 }
 {
     if count < 1 {
         return Number::NoNumber;
@@ -71,7 +71,7 @@ fn count_digits(minus: bool, digits: u64, count: usize) -> Number
 // Trailing zeros are digits, so that they have their part in that room, but are not read.
 fn read_unsigned(minus: bool, s: &[u8]) -> Number
     requires { length s.now ≤ 10 }
-    ensures { numberIs result ≡ decimalOf minus s.now }
+    ensures { number_is result ≡ decimal_of minus s.now }
 {
     let whole = read_digits(s, 0);
     let end = whole.end;
@@ -96,7 +96,7 @@ fn read_unsigned(minus: bool, s: &[u8]) -> Number
 
 // How many bytes a sign takes, if `b` is one.
 fn sign_length(b: u8) -> usize
-    ensures { result ≡ signLength b }
+    ensures { result ≡ sign_length b }
 {
     if b == 0x2B {
         return 1;
@@ -109,7 +109,7 @@ fn sign_length(b: u8) -> usize
 
 // The number in a field, which has no blanks around it. Nine digits and a point are ten bytes: what is longer, without its sign, is none.
 pub fn read_number(f: &[u8]) -> Number
-    ensures { numberIs result ≡ number_of f.now }
+    ensures { number_is result ≡ number_of f.now }
 {
     if f.len() < 1 {
         return Number::Decimal(false, 0, 0);

@@ -1,10 +1,10 @@
 -- Walks apart, in figures: how many there are, which refusal of them comes first, and what they find. A table for each, by computation.
 use Rattle.std.specs.Prelude.{ℕ, ◌-◌, refl, Bool, true, false, List, [], ◌∷◌, ◌++◌}
 use Rattle.meaning.specs.Words.{if◌then◌else◌, bytes}
-use Rattle.meaning.specs.Run.{Worked, Only, workedUnder}
+use Rattle.meaning.specs.Run.{Worked, Only, worked_under}
 use Rattle.meaning.specs.Computing.{computing}
-use Rattle.meaning.specs.Pond.{Row, row, Agree, refusalIn, flowUnder}
-use Rattle.passes.specs.Apart.{rank_of, comesFirst, apart, ratioCount}
+use Rattle.meaning.specs.Pond.{Row, row, Agree, refusal_in, flow_under}
+use Rattle.passes.specs.Apart.{rank_of, comes_first, apart, ratio_count}
 
 -- Two basins of 20,000 and 90,000 cfs, and what follows them: their confluence, which is over the limit, or what else the lines say.
 abbrev flood : List ℕ → List ℕ → List ℕ
@@ -22,71 +22,71 @@ filling ratios =
     ++ bytes "\nKK A\nQI 1\nKK B\nBA 1\nPI 1\nLU\nUI 200\nKK C\nRS 1,STOR,0\nSV 0,10\nSQ 0,1\nZZ\n"
 
 abbrev found : List ℕ → Worked
-found deck = apart deck (workedUnder (Only 0) deck) 1 (ratioCount deck - 1)
+found deck = apart deck (worked_under (Only 0) deck) 1 (ratio_count deck - 1)
 
 abbrev figure : Bool → List ℕ
 figure true = 1 ∷ []
 figure false = []
 
-abbrev countTable : List Row
-countTable =
+abbrev count_table : List Row
+count_table =
     -- the ratios in force where the first block opens; 1 where none opens: a refusal, a ZZ, or the deck's end before it
-    row (ratioCount (bytes "*FREE\nIT 60,,,1\nJR PREC,1,2,3\nKK A\nZZ\n") ∷ []) (3 ∷ []) ∷
-    row (ratioCount (bytes "*FREE\nIT 60,,,1\nKK A\nZZ\n") ∷ []) (1 ∷ []) ∷
-    row (ratioCount (bytes "*FREE\nIT 60,,,1\nJR PREC,1,2,3\nQI\nKK A\n") ∷ []) (1 ∷ []) ∷
-    row (ratioCount (bytes "*FREE\nIT 60,,,1\nJR PREC,1,2,3\nZZ\n") ∷ []) (1 ∷ []) ∷
-    row (ratioCount (bytes "*FREE\nIT 60,,,1\nJR PREC,1,2,3\n") ∷ []) (1 ∷ []) ∷
+    row (ratio_count (bytes "*FREE\nIT 60,,,1\nJR PREC,1,2,3\nKK A\nZZ\n") ∷ []) (3 ∷ []) ∷
+    row (ratio_count (bytes "*FREE\nIT 60,,,1\nKK A\nZZ\n") ∷ []) (1 ∷ []) ∷
+    row (ratio_count (bytes "*FREE\nIT 60,,,1\nJR PREC,1,2,3\nQI\nKK A\n") ∷ []) (1 ∷ []) ∷
+    row (ratio_count (bytes "*FREE\nIT 60,,,1\nJR PREC,1,2,3\nZZ\n") ∷ []) (1 ∷ []) ∷
+    row (ratio_count (bytes "*FREE\nIT 60,,,1\nJR PREC,1,2,3\n") ∷ []) (1 ∷ []) ∷
     []
 
-pub counts : Agree countTable
-unfolding computing ratioCount
+pub counts : Agree count_table
+unfolding computing ratio_count
 counts = (refl, (refl, (refl, (refl, (refl, tt)))))
 
-abbrev orderTable : List Row
-orderTable =
+abbrev order_table : List Row
+order_table =
     -- the earlier line, on one line the smaller number, and 16 last
-    row (figure (comesFirst 13 14 13 16)) (1 ∷ []) ∷
-    row (figure (comesFirst 13 16 13 14)) [] ∷
-    row (figure (comesFirst 13 14 14 14)) (1 ∷ []) ∷
-    row (figure (comesFirst 14 14 13 14)) [] ∷
-    row (figure (comesFirst 13 14 16 0)) (1 ∷ []) ∷
-    row (figure (comesFirst 16 0 13 14)) [] ∷
+    row (figure (comes_first 13 14 13 16)) (1 ∷ []) ∷
+    row (figure (comes_first 13 16 13 14)) [] ∷
+    row (figure (comes_first 13 14 14 14)) (1 ∷ []) ∷
+    row (figure (comes_first 14 14 13 14)) [] ∷
+    row (figure (comes_first 13 14 16 0)) (1 ∷ []) ∷
+    row (figure (comes_first 16 0 13 14)) [] ∷
     -- on one line 20 before 14 and 15, before 16 too, and of 20 and 13 the first; but an earlier line before it
-    row (figure (comesFirst 20 14 14 14)) (1 ∷ []) ∷
-    row (figure (comesFirst 14 14 20 14)) [] ∷
-    row (figure (comesFirst 20 14 15 14)) (1 ∷ []) ∷
-    row (figure (comesFirst 15 14 20 14)) [] ∷
-    row (figure (comesFirst 20 14 16 0)) (1 ∷ []) ∷
-    row (figure (comesFirst 16 0 20 14)) [] ∷
-    row (figure (comesFirst 20 14 13 14)) (1 ∷ []) ∷
-    row (figure (comesFirst 13 14 20 14)) (1 ∷ []) ∷
-    row (figure (comesFirst 20 16 15 14)) [] ∷
+    row (figure (comes_first 20 14 14 14)) (1 ∷ []) ∷
+    row (figure (comes_first 14 14 20 14)) [] ∷
+    row (figure (comes_first 20 14 15 14)) (1 ∷ []) ∷
+    row (figure (comes_first 15 14 20 14)) [] ∷
+    row (figure (comes_first 20 14 16 0)) (1 ∷ []) ∷
+    row (figure (comes_first 16 0 20 14)) [] ∷
+    row (figure (comes_first 20 14 13 14)) (1 ∷ []) ∷
+    row (figure (comes_first 13 14 20 14)) (1 ∷ []) ∷
+    row (figure (comes_first 20 16 15 14)) [] ∷
     []
 
-pub order : Agree orderTable
-unfolding if◌then◌else◌ rank_of comesFirst
+pub order : Agree order_table
+unfolding if◌then◌else◌ rank_of comes_first
 order = (refl, (refl, (refl, (refl, (refl, (refl, (refl, (refl, (refl, (refl, (refl, (refl, (refl, (refl, (refl, tt)))))))))))))))
 
-abbrev foundTable : List Row
-foundTable =
+abbrev found_table : List Row
+found_table =
     -- 13 at the earliest line, whichever walk found it
-    row (refusalIn (found (flood (bytes "1.00,3.00") joined))) (13 ∷ 14 ∷ []) ∷
-    row (refusalIn (found (flood (bytes "3.00,1.00") joined))) (13 ∷ 14 ∷ []) ∷
-    row (refusalIn (found (flood (bytes "3.00,.01") joined))) (13 ∷ 14 ∷ []) ∷
-    row (refusalIn (found (flood (bytes ".01,3.00") joined))) (13 ∷ 14 ∷ []) ∷
+    row (refusal_in (found (flood (bytes "1.00,3.00") joined))) (13 ∷ 14 ∷ []) ∷
+    row (refusal_in (found (flood (bytes "3.00,1.00") joined))) (13 ∷ 14 ∷ []) ∷
+    row (refusal_in (found (flood (bytes "3.00,.01") joined))) (13 ∷ 14 ∷ []) ∷
+    row (refusal_in (found (flood (bytes ".01,3.00") joined))) (13 ∷ 14 ∷ []) ∷
     -- 15 and 13 on one line; 16 and 13
-    row (refusalIn (found (flood (bytes "1.00,3.00") (bytes "ZZ\n")))) (13 ∷ 14 ∷ []) ∷
-    row (refusalIn (found (flood (bytes "1.00,3.00") (bytes "KK C\nHC 2\n")))) (13 ∷ 14 ∷ []) ∷
+    row (refusal_in (found (flood (bytes "1.00,3.00") (bytes "ZZ\n")))) (13 ∷ 14 ∷ []) ∷
+    row (refusal_in (found (flood (bytes "1.00,3.00") (bytes "KK C\nHC 2\n")))) (13 ∷ 14 ∷ []) ∷
     -- 15 and 20 on one line, whichever walk found it
-    row (refusalIn (found (filling (bytes "1.00")))) (15 ∷ 15 ∷ []) ∷
-    row (refusalIn (found (filling (bytes "1.00,3.00")))) (20 ∷ 15 ∷ []) ∷
-    row (refusalIn (found (filling (bytes "3.00,1.00")))) (20 ∷ 15 ∷ []) ∷
+    row (refusal_in (found (filling (bytes "1.00")))) (15 ∷ 15 ∷ []) ∷
+    row (refusal_in (found (filling (bytes "1.00,3.00")))) (20 ∷ 15 ∷ []) ∷
+    row (refusal_in (found (filling (bytes "3.00,1.00")))) (20 ∷ 15 ∷ []) ∷
     -- ratio after ratio
-    row (refusalIn (found (flood (bytes ".01,.02") joined))) [] ∷
-    row (flowUnder 1 3 (found (flood (bytes ".01,.02") joined))) (66_000_000_000 ∷ []) ∷
-    row (flowUnder 2 3 (found (flood (bytes ".01,.02") joined))) (132_000_000_000 ∷ []) ∷
+    row (refusal_in (found (flood (bytes ".01,.02") joined))) [] ∷
+    row (flow_under 1 3 (found (flood (bytes ".01,.02") joined))) (66_000_000_000 ∷ []) ∷
+    row (flow_under 2 3 (found (flood (bytes ".01,.02") joined))) (132_000_000_000 ∷ []) ∷
     []
 
-pub finds : Agree foundTable
-unfolding computing rank_of comesFirst ratioCount
+pub finds : Agree found_table
+unfolding computing rank_of comes_first ratio_count
 finds = (refl, (refl, (refl, (refl, (refl, (refl, (refl, (refl, (refl, (refl, (refl, (refl, tt))))))))))))

@@ -1,97 +1,97 @@
 -- The code's loop over ratios: what it keeps between two walks, and what it leaves.
 --     WalkIs            what a walk under one ratio that came to its end promises of what it is lent: the bytes of the records from its own on, and ordinates
 --     Holds, Stands     where the loop stands after k walks. Once one was refused nothing is kept of what was lent: all of it is zeroed in the end
---     holds-first, holds_more, holds-refused, holds-still-refused    what is kept after the first walk, after another, and once one was refused
+--     holds_first, holds_more, holds-refused, holds_still_refused    what is kept after the first walk, after another, and once one was refused
 --     lent-zeros        what the next walk is lent of the records is zeros still
---     loop-first, loop-more, loop-found    the loop, and what all the walks found
---     turn-done, turn-stopped, turn-still-stopped    loop-more by what the walk came to
---     loop-ends         what comes back where it is accepted
+--     loop_first, loop_more, loop_found    the loop, and what all the walks found
+--     turn-done, turn-stopped, turn-still-stopped    loop_more by what the walk came to
+--     loop_ends         what comes back where it is accepted
 use Rattle.std.specs.Prelude.{ℕ, zero, suc, ◌+◌, ◌-◌, ◌*◌, ◌≤◌, ◌<◌, ◌≡◌, refl, Bool, ◌⊎◌, List, [], ◌∷◌, ◌++◌, length, take, drop, get_or, replicate}
 use Rattle.std.proofs.Common.{sym, ap, subst, ◌∙◌, inl, inr, ⊎_elim, append_assoc, append-nil, mul-add, mul-one, arith, length-append, take_at, drop_at, eq-eqb, ne_eqb}
 use Rattle.std.proofs.Math.Bool.{true, false}
 use Rattle.std.proofs.Math.Seq.{get_or-append_seam}
 use Rattle.meaning.specs.Words.{if◌then◌else◌}
-use Rattle.meaning.specs.Blocks.{Time, ratioAt}
-use Rattle.meaning.specs.Results.{Result, recordSize, recordsOf}
-use Rattle.meaning.specs.Run.{Only, Worked, Stopped, Done, workedUnder, worked, Lent, Accepted, namedFlow, namedRatio, blockCount, allRecords, recordBytes, accepted}
+use Rattle.meaning.specs.Blocks.{Time, ratio_at}
+use Rattle.meaning.specs.Results.{Result, record_size, records_of}
+use Rattle.meaning.specs.Run.{Only, Worked, Stopped, Done, worked_under, worked, Lent, Accepted, named_flow, named_ratio, block_count, all_records, record_bytes, accepted}
 use Rattle.sequences.specs.Choices.{below_or_not}
-use Rattle.passes.specs.Apart.{comesFirst, sooner, apart, ratioCount}
-use Rattle.passes.specs.Together.{together-apart}
-use Rattle.passes.specs.Walks.{count-some}
-use Rattle.passes.specs.Alike.{Alike, walks-alike}
+use Rattle.passes.specs.Apart.{comes_first, sooner, apart, ratio_count}
+use Rattle.passes.specs.Together.{together_apart}
+use Rattle.passes.specs.Walks.{count_some}
+use Rattle.passes.specs.Alike.{Alike, walks_alike}
 
 -- The records of the ratio at place k.
-abbrev pub recordsAt : ℕ → Time → List Result → List ℕ
-recordsAt k τ rs = recordsOf (ratioAt k τ) (k + 1) rs
+abbrev pub records_at : ℕ → Time → List Result → List ℕ
+records_at k τ rs = records_of (ratio_at k τ) (k + 1) rs
 
 -- A walk that came to its end: its results, their records in m bytes and the named hydrograph in n ordinates.
 pub record WalkIs (deck : List ℕ) (k named n m : ℕ) (τ : Time) (rs : List Result) (ordinates records : List ℕ) : Type 0 where
-  pub done : workedUnder (Only k) deck ≡ Done τ (rs ∷ [])
-  pub long : length (recordsAt k τ rs) ≡ recordSize * length rs
-  pub told : recordSize * length rs ≤ m → records ≡ recordsAt k τ rs ++ replicate (m - recordSize * length rs) 0
-  pub flow : named ≤ length rs → τ.ordinates ≤ n → ordinates ≡ namedFlow named rs ++ replicate (n - τ.ordinates) 0
+  pub done : worked_under (Only k) deck ≡ Done τ (rs ∷ [])
+  pub long : length (records_at k τ rs) ≡ record_size * length rs
+  pub told : record_size * length rs ≤ m → records ≡ records_at k τ rs ++ replicate (m - record_size * length rs) 0
+  pub flow : named ≤ length rs → τ.ordinates ≤ n → ordinates ≡ named_flow named rs ++ replicate (n - τ.ordinates) 0
 
 -- What is kept after k walks that all came to their end.
 pub record Holds (deck : List ℕ) (named ratio n m k : ℕ) (τ : Time) (rss : List (List Result)) (ordinates records : List ℕ) : Type 0 where
   pub some : 0 < k
   pub ratios : length rss ≡ k
-  pub first : workedUnder (Only 0) deck ≡ Done τ (get_or rss 0 [] ∷ [])
-  pub long : length (allRecords τ 0 rss) ≡ recordBytes (blockCount rss) k
-  pub told : recordBytes (blockCount rss) k ≤ m → records ≡ allRecords τ 0 rss ++ replicate (m - recordBytes (blockCount rss) k) 0
-  pub flow : named ≤ blockCount rss → τ.ordinates ≤ n → ratio ≤ k → ordinates ≡ namedFlow named (namedRatio ratio rss) ++ replicate (n - τ.ordinates) 0
+  pub first : worked_under (Only 0) deck ≡ Done τ (get_or rss 0 [] ∷ [])
+  pub long : length (all_records τ 0 rss) ≡ record_bytes (block_count rss) k
+  pub told : record_bytes (block_count rss) k ≤ m → records ≡ all_records τ 0 rss ++ replicate (m - record_bytes (block_count rss) k) 0
+  pub flow : named ≤ block_count rss → τ.ordinates ≤ n → ratio ≤ k → ordinates ≡ named_flow named (named_ratio ratio rss) ++ replicate (n - τ.ordinates) 0
 
 abbrev pub HoldsOf : List ℕ → (named ratio n m k : ℕ) → Worked → (ordinates records : List ℕ) → Type 0
 HoldsOf deck named ratio n m k (Stopped number line) ordinates records = Unit
 HoldsOf deck named ratio n m k (Done τ rss) ordinates records = Holds deck named ratio n m k τ rss ordinates records
 
 pub record Stands (deck : List ℕ) (named ratio n m k : ℕ) (found : Worked) (ordinates records : List ℕ) : Type 0 where
-  pub up : k ≤ ratioCount deck
-  pub walked : apart deck found k (ratioCount deck - k) ≡ worked deck
+  pub up : k ≤ ratio_count deck
+  pub walked : apart deck found k (ratio_count deck - k) ≡ worked deck
   pub holds : HoldsOf deck named ratio n m k found ordinates records
 
 -- The bytes that the walk under the ratio at place k is lent begin here; past the end of the records it is lent none.
-abbrev pub recordsFrom : (blocks k : ℕ) → ℕ
-recordsFrom blocks k = recordBytes blocks k
+abbrev pub records_from : (blocks k : ℕ) → ℕ
+records_from blocks k = record_bytes blocks k
 
 -- The ordinates before a walk and after it, and those that it was lent, n' of them, as it left them: all n where its ratio is named or the last is, 0; else others were left alone.
 pub record OrdinatesLent (ratio n k n' : ℕ) (before lent after : List ℕ) : Type 0 where
   pub written : (ratio ≡ 0) ⊎ (ratio ≡ k + 1) → (n' ≡ n) × (after ≡ lent)
   pub left : 0 < ratio → ratio ≤ k → after ≡ before
 
-all_append : (τ : Time) (k : ℕ) (rss : List (List Result)) (rs : List Result) → allRecords τ k (rss ++ (rs ∷ [])) ≡ allRecords τ k rss ++ recordsAt (k + length rss) τ rs
+all_append : (τ : Time) (k : ℕ) (rss : List (List Result)) (rs : List Result) → all_records τ k (rss ++ (rs ∷ [])) ≡ all_records τ k rss ++ records_at (k + length rss) τ rs
 all_append τ k [] rs =
     let here : k + 0 ≡ k = omega arith in
-    rw here (append-nil (recordsAt k τ rs))
+    rw here (append-nil (records_at k τ rs))
 all_append τ k (qs ∷ rss) rs =
     let on : k + 1 + length rss ≡ k + suc (length rss) = omega arith in
-    rw (all_append τ (k + 1) rss rs, on) (sym (append_assoc (recordsAt k τ qs) (allRecords τ (k + 1) rss) (recordsAt (k + suc (length rss)) τ rs)))
+    rw (all_append τ (k + 1) rss rs, on) (sym (append_assoc (records_at k τ qs) (all_records τ (k + 1) rss) (records_at (k + suc (length rss)) τ rs)))
 
-at-append : {A : Type 0} (xs : List A) (y d : A) (i : ℕ) → i < length xs → get_or (xs ++ (y ∷ [])) i d ≡ get_or xs i d
-at-append [] y d i h = absurd (omega arith)
-at-append (x ∷ xs) y d zero h = refl
-at-append (x ∷ xs) y d (suc i) h = at-append xs y d i (omega arith)
+at_append : {A : Type 0} (xs : List A) (y d : A) (i : ℕ) → i < length xs → get_or (xs ++ (y ∷ [])) i d ≡ get_or xs i d
+at_append [] y d i h = absurd (omega arith)
+at_append (x ∷ xs) y d zero h = refl
+at_append (x ∷ xs) y d (suc i) h = at_append xs y d i (omega arith)
 
 -- The ratio that is named, 0 the last, or that stands at the place just walked; and one that stands before it.
-last-named : (rss : List (List Result)) (rs : List Result) (ratio k : ℕ) → length rss ≡ k → (ratio ≡ 0) ⊎ (ratio ≡ k + 1) → namedRatio ratio (rss ++ (rs ∷ [])) ≡ rs
-unfolding namedRatio if◌then◌else◌
-last-named rss rs ratio k e (inl z) =
+last_named : (rss : List (List Result)) (rs : List Result) (ratio k : ℕ) → length rss ≡ k → (ratio ≡ 0) ⊎ (ratio ≡ k + 1) → named_ratio ratio (rss ++ (rs ∷ [])) ≡ rs
+unfolding named_ratio if◌then◌else◌
+last_named rss rs ratio k e (inl z) =
     let n : length (rss ++ (rs ∷ [])) - 1 ≡ length rss = omega (arith, length-append rss (rs ∷ [])) in
     rw (eq-eqb ratio 0 z, n) (get_or-append_seam rss rs [] [])
-last-named rss rs ratio k e (inr z) =
+last_named rss rs ratio k e (inr z) =
     let n : ratio - 1 ≡ length rss = omega arith in
     let p : ratio ≡ 0 → ⊥ = λ y. omega arith in
     rw (ne_eqb ratio 0 p, n) (get_or-append_seam rss rs [] [])
 
-other-named : (rss : List (List Result)) (rs : List Result) (ratio k : ℕ) → length rss ≡ k → 0 < ratio → ratio ≤ k → namedRatio ratio (rss ++ (rs ∷ [])) ≡ namedRatio ratio rss
-unfolding namedRatio if◌then◌else◌
-other-named rss rs ratio k e p h =
+other_named : (rss : List (List Result)) (rs : List Result) (ratio k : ℕ) → length rss ≡ k → 0 < ratio → ratio ≤ k → named_ratio ratio (rss ++ (rs ∷ [])) ≡ named_ratio ratio rss
+unfolding named_ratio if◌then◌else◌
+other_named rss rs ratio k e p h =
     let q : ratio ≡ 0 → ⊥ = λ y. omega arith in
     let i : ratio - 1 < length rss = omega arith in
-    rw (ne_eqb ratio 0 q) (at-append rss rs [] (ratio - 1) i)
+    rw (ne_eqb ratio 0 q) (at_append rss rs [] (ratio - 1) i)
 
 -- Is the ratio named that stands at place k, or an earlier one?
-this-or-earlier : (ratio k : ℕ) → ratio ≤ k + 1 → ((ratio ≡ 0) ⊎ (ratio ≡ k + 1)) ⊎ ((0 < ratio) × (ratio ≤ k))
-this-or-earlier ratio k up =
+this_or_earlier : (ratio k : ℕ) → ratio ≤ k + 1 → ((ratio ≡ 0) ⊎ (ratio ≡ k + 1)) ⊎ ((0 < ratio) × (ratio ≤ k))
+this_or_earlier ratio k up =
     ⊎_elim
     (λ (some : 0 < ratio). ⊎_elim (λ (above : k < ratio). inl (inr (omega arith))) (λ (below : ratio ≤ k). inr (some, below)) (below_or_not k ratio))
     (λ (none : ratio ≤ 0). inl (inl (omega arith)))
@@ -100,30 +100,30 @@ this-or-earlier ratio k up =
 module _ (deck : List ℕ) (named ratio n m : ℕ) where
   -- THE NAMED HYDROGRAPH after a walk: its own, or what stood there.
   module _ (k n' nq : ℕ) (rss : List (List Result)) (rs : List Result) (before lent after : List ℕ) (long : length rss ≡ k) (room : nq ≤ n) (put : OrdinatesLent ratio n k n' before lent after)
-      (this : nq ≤ n' → lent ≡ namedFlow named rs ++ replicate (n' - nq) 0)
-      (earlier : 0 < ratio → ratio ≤ k → before ≡ namedFlow named (namedRatio ratio rss) ++ replicate (n - nq) 0) where
-    named_put : ratio ≤ k + 1 → after ≡ namedFlow named (namedRatio ratio (rss ++ (rs ∷ []))) ++ replicate (n - nq) 0
+      (this : nq ≤ n' → lent ≡ named_flow named rs ++ replicate (n' - nq) 0)
+      (earlier : 0 < ratio → ratio ≤ k → before ≡ named_flow named (named_ratio ratio rss) ++ replicate (n - nq) 0) where
+    named_put : ratio ≤ k + 1 → after ≡ named_flow named (named_ratio ratio (rss ++ (rs ∷ []))) ++ replicate (n - nq) 0
     named_put up =
         ⊎_elim
         (λ (here : (ratio ≡ 0) ⊎ (ratio ≡ k + 1)).
         let w = put.written here in
         let fits : nq ≤ n' = omega (arith, w.0) in
-        rw (last-named rss rs ratio k long here) (w.1 ∙ rw w.0 at (this fits)))
+        rw (last_named rss rs ratio k long here) (w.1 ∙ rw w.0 at (this fits)))
         (λ (there : (0 < ratio) × (ratio ≤ k)).
-        rw (other-named rss rs ratio k long there.0 there.1) (put.left there.0 there.1 ∙ earlier there.0 there.1))
-        (this-or-earlier ratio k up)
+        rw (other_named rss rs ratio k long there.0 there.1) (put.left there.0 there.1 ∙ earlier there.0 there.1))
+        (this_or_earlier ratio k up)
 
   -- THE FIRST WALK that came to its end. It was lent all the records.
-  pub holds-first : (n' : ℕ) (τ : Time) (rs : List Result) (before lent after records : List ℕ) → WalkIs deck 0 named n' m τ rs lent records → OrdinatesLent ratio n 0 n' before lent after
+  pub holds_first : (n' : ℕ) (τ : Time) (rs : List Result) (before lent after records : List ℕ) → WalkIs deck 0 named n' m τ rs lent records → OrdinatesLent ratio n 0 n' before lent after
       → Holds deck named ratio n m 1 τ (rs ∷ []) after records
-  holds-first n' τ rs before lent after records w put =
+  holds_first n' τ rs before lent after records w put =
       let one : length rs * 1 ≡ length rs = mul-one (length rs) in
       record {
         some = omega arith;
         ratios = refl;
         first = w.done;
-        long = rw (one, append-nil (recordsAt 0 τ rs)) w.long;
-        told = rw (one, append-nil (recordsAt 0 τ rs)) w.told;
+        long = rw (one, append-nil (records_at 0 τ rs)) w.long;
+        told = rw (one, append-nil (records_at 0 τ rs)) w.told;
         flow = λ (few : named ≤ length rs) (room : τ.ordinates ≤ n) (up : ratio ≤ 1).
             named_put 0 n' τ.ordinates [] rs before lent after refl room put (w.flow few) (λ (some : 0 < ratio) (none : ratio ≤ 0). absurd (omega arith)) up;
       }
@@ -131,39 +131,39 @@ module _ (deck : List ℕ) (named ratio n m : ℕ) where
   -- ANOTHER WALK that came to its end: it has as many blocks and the same time control, and was lent the records from its own on, where there are such.
   module _ (k : ℕ) (τ : Time) (rss : List (List Result)) (ordinates records : List ℕ) (h : Holds deck named ratio n m k τ rss ordinates records) where
     abbrev b : ℕ
-    b = blockCount rss
+    b = block_count rss
 
-    pub lent-zeros : recordsFrom b k ≤ m → drop (recordsFrom b k) records ≡ replicate (m - recordsFrom b k) 0
-    lent-zeros fits = rw (h.told fits) (drop_at (allRecords τ 0 rss) (replicate (m - recordsFrom b k) 0) (recordsFrom b k) h.long)
+    pub lent-zeros : records_from b k ≤ m → drop (records_from b k) records ≡ replicate (m - records_from b k) 0
+    lent-zeros fits = rw (h.told fits) (drop_at (all_records τ 0 rss) (replicate (m - records_from b k) 0) (records_from b k) h.long)
 
-    module _ (n' : ℕ) (σ : Time) (rs : List Result) (lent after lent-records records' : List ℕ) (w : WalkIs deck k named n' (m - recordsFrom b k) σ rs lent lent-records)
-        (kept : recordsFrom b k ≤ m → records' ≡ take (recordsFrom b k) records ++ lent-records) (put : OrdinatesLent ratio n k n' ordinates lent after) where
+    module _ (n' : ℕ) (σ : Time) (rs : List Result) (lent after lent-records records' : List ℕ) (w : WalkIs deck k named n' (m - records_from b k) σ rs lent lent-records)
+        (kept : records_from b k ≤ m → records' ≡ take (records_from b k) records ++ lent-records) (put : OrdinatesLent ratio n k n' ordinates lent after) where
       alike : Alike deck τ σ (get_or rss 0 []) rs
-      alike = walks-alike deck 0 k τ σ (get_or rss 0 []) rs h.first w.done
+      alike = walks_alike deck 0 k τ σ (get_or rss 0 []) rs h.first w.done
 
-      walk : WalkIs deck k named n' (m - recordsFrom b k) τ rs lent lent-records
-      walk = subst (λ (ρ : Time). WalkIs deck k named n' (m - recordsFrom b k) ρ rs lent lent-records) (sym alike.time) w
+      walk : WalkIs deck k named n' (m - records_from b k) τ rs lent lent-records
+      walk = subst (λ (ρ : Time). WalkIs deck k named n' (m - records_from b k) ρ rs lent lent-records) (sym alike.time) w
 
-      more : allRecords τ 0 (rss ++ (rs ∷ [])) ≡ allRecords τ 0 rss ++ recordsAt k τ rs
+      more : all_records τ 0 (rss ++ (rs ∷ [])) ≡ all_records τ 0 rss ++ records_at k τ rs
       more =
           let last : 0 + length rss ≡ k = omega (arith, h.ratios) in
           rw last at (all_append τ 0 rss rs)
 
       begins : get_or (rss ++ (rs ∷ [])) 0 [] ≡ get_or rss 0 []
-      begins = at-append rss rs [] 0 (omega (arith, h.some, h.ratios))
+      begins = at_append rss rs [] 0 (omega (arith, h.some, h.ratios))
 
       one_more : b * (k + 1) ≡ b * k + b
       one_more = rw (mul-add b k 1, mul-one b)
 
-      records-more : recordBytes b (k + 1) ≤ m → records' ≡ allRecords τ 0 (rss ++ (rs ∷ [])) ++ replicate (m - recordBytes b (k + 1)) 0
-      records-more room =
+      records_more : record_bytes b (k + 1) ≤ m → records' ≡ all_records τ 0 (rss ++ (rs ∷ [])) ++ replicate (m - record_bytes b (k + 1)) 0
+      records_more room =
           let same = alike.blocks in
-          let f : recordsFrom b k ≤ m = omega (arith, one_more) in
-          let g : recordSize * length rs ≤ m - recordsFrom b k = omega (arith, one_more) in
-          let z : m - recordsFrom b k - recordSize * length rs ≡ m - recordBytes b (k + 1) = omega (arith, one_more) in
+          let f : records_from b k ≤ m = omega (arith, one_more) in
+          let g : record_size * length rs ≤ m - records_from b k = omega (arith, one_more) in
+          let z : m - records_from b k - record_size * length rs ≡ m - record_bytes b (k + 1) = omega (arith, one_more) in
           kept f
-          ∙ rw (h.told f, take_at (allRecords τ 0 rss) (replicate (m - recordsFrom b k) 0) (recordsFrom b k) h.long, walk.told g, z, more)
-          (sym (append_assoc (allRecords τ 0 rss) (recordsAt k τ rs) (replicate (m - recordBytes b (k + 1)) 0)))
+          ∙ rw (h.told f, take_at (all_records τ 0 rss) (replicate (m - records_from b k) 0) (records_from b k) h.long, walk.told g, z, more)
+          (sym (append_assoc (all_records τ 0 rss) (records_at k τ rs) (replicate (m - record_bytes b (k + 1)) 0)))
 
       pub holds_more : Holds deck named ratio n m (k + 1) τ (rss ++ (rs ∷ [])) after records'
       holds_more =
@@ -172,8 +172,8 @@ module _ (deck : List ℕ) (named ratio n m : ℕ) where
             some = omega arith;
             ratios = omega (arith, length-append rss (rs ∷ []), h.ratios);
             first = rw begins h.first;
-            long = rw (begins, more) (omega (arith, length-append (allRecords τ 0 rss) (recordsAt k τ rs), h.long, walk.long, one_more));
-            told = rw begins records-more;
+            long = rw (begins, more) (omega (arith, length-append (all_records τ 0 rss) (records_at k τ rs), h.long, walk.long, one_more));
+            told = rw begins records_more;
             flow =
                 rw begins
                 (λ (few : named ≤ b) (room : τ.ordinates ≤ n) (up : ratio ≤ k + 1).
@@ -182,50 +182,50 @@ module _ (deck : List ℕ) (named ratio n m : ℕ) where
           }
 
   -- Nothing is asked of what was lent once a walk was refused.
-  either-stopped : (t : Bool) (number line number' line' k : ℕ) (ordinates records : List ℕ)
+  either_stopped : (t : Bool) (number line number' line' k : ℕ) (ordinates records : List ℕ)
       → HoldsOf deck named ratio n m k (if t then Stopped number line else Stopped number' line') ordinates records
   unfolding if◌then◌else◌
-  either-stopped true number line number' line' k ordinates records = tt
-  either-stopped false number line number' line' k ordinates records = tt
+  either_stopped true number line number' line' k ordinates records = tt
+  either_stopped false number line number' line' k ordinates records = tt
 
   pub holds-refused : (found : Worked) (number line k : ℕ) (ordinates records : List ℕ) → HoldsOf deck named ratio n m k (sooner found (Stopped number line)) ordinates records
-  holds-refused (Stopped number' line') number line k ordinates records = either-stopped (comesFirst number' line' number line) number' line' number line k ordinates records
+  holds-refused (Stopped number' line') number line k ordinates records = either_stopped (comes_first number' line' number line) number' line' number line k ordinates records
   holds-refused (Done τ rss) number line k ordinates records = tt
 
-  pub holds-still-refused : (w : Worked) (number line k : ℕ) (ordinates records : List ℕ) → HoldsOf deck named ratio n m k (sooner (Stopped number line) w) ordinates records
-  holds-still-refused (Stopped number' line') number line k ordinates records = either-stopped (comesFirst number line number' line') number line number' line' k ordinates records
-  holds-still-refused (Done τ rss) number line k ordinates records = tt
+  pub holds_still_refused : (w : Worked) (number line k : ℕ) (ordinates records : List ℕ) → HoldsOf deck named ratio n m k (sooner (Stopped number line) w) ordinates records
+  holds_still_refused (Stopped number' line') number line k ordinates records = either_stopped (comes_first number line number' line') number line number' line' k ordinates records
+  holds_still_refused (Done τ rss) number line k ordinates records = tt
 
   -- THE LOOP, whose variables are k and what was found. w is what the walk comes to.
-  pub loop-first : (w : Worked) (ordinates records : List ℕ) → workedUnder (Only 0) deck ≡ w → HoldsOf deck named ratio n m 1 w ordinates records
+  pub loop_first : (w : Worked) (ordinates records : List ℕ) → worked_under (Only 0) deck ≡ w → HoldsOf deck named ratio n m 1 w ordinates records
       → Stands deck named ratio n m 1 w ordinates records
-  loop-first w ordinates records e h =
-      record { up = count-some deck; walked = sym (together-apart deck ∙ ap (λ (v : Worked). apart deck v 1 (ratioCount deck - 1)) e); holds = h }
+  loop_first w ordinates records e h =
+      record { up = count_some deck; walked = sym (together_apart deck ∙ ap (λ (v : Worked). apart deck v 1 (ratio_count deck - 1)) e); holds = h }
 
-  module _ (k : ℕ) (more : k < ratioCount deck) (ordinates records ordinates' records' : List ℕ) where
-    pub loop-more : (found w : Worked) → workedUnder (Only k) deck ≡ w → Stands deck named ratio n m k found ordinates records
+  module _ (k : ℕ) (more : k < ratio_count deck) (ordinates records ordinates' records' : List ℕ) where
+    pub loop_more : (found w : Worked) → worked_under (Only k) deck ≡ w → Stands deck named ratio n m k found ordinates records
         → HoldsOf deck named ratio n m (k + 1) (sooner found w) ordinates' records'
         → Stands deck named ratio n m (k + 1) (sooner found w) ordinates' records'
-    loop-more found w e s h =
-        let left = ratioCount deck - (k + 1) in
-        let one : ratioCount deck - k ≡ suc left = omega arith in
+    loop_more found w e s h =
+        let left = ratio_count deck - (k + 1) in
+        let one : ratio_count deck - k ≡ suc left = omega arith in
         record {
           up = omega arith;
           walked = sym (ap (λ (v : Worked). apart deck (sooner found v) (k + 1) left) e) ∙ sym (ap (apart deck found k) one) ∙ s.walked;
           holds = h;
         }
 
-  pub loop-found : (k : ℕ) (found : Worked) (ordinates records : List ℕ) → Stands deck named ratio n m k found ordinates records → ratioCount deck ≤ k → worked deck ≡ found
-  loop-found k found ordinates records s done =
-      let e : ratioCount deck - k ≡ 0 = omega arith in
+  pub loop_found : (k : ℕ) (found : Worked) (ordinates records : List ℕ) → Stands deck named ratio n m k found ordinates records → ratio_count deck ≤ k → worked deck ≡ found
+  loop_found k found ordinates records s done =
+      let e : ratio_count deck - k ≡ 0 = omega arith in
       sym s.walked ∙ ap (apart deck found k) e
 
   -- WHAT COMES BACK after the last walk, where none was refused and there is room: what was lent holds it already, and the work words are zeroed.
-  pub loop-ends : (lent : Lent) (k : ℕ) (τ : Time) (rss : List (List Result)) (ordinates records : List ℕ) → lent.ordinates ≡ n → lent.records ≡ m
+  pub loop_ends : (lent : Lent) (k : ℕ) (τ : Time) (rss : List (List Result)) (ordinates records : List ℕ) → lent.ordinates ≡ n → lent.records ≡ m
       → Holds deck named ratio n m k τ rss ordinates records
-      → named ≤ blockCount rss → τ.ordinates ≤ n → ratio ≤ k → recordBytes (blockCount rss) k ≤ m
-      → accepted named ratio τ rss lent ≡ record { answer = Accepted τ.ordinates (blockCount rss) k; work = replicate lent.work 0; ordinates = ordinates; records = records }
-  loop-ends lent k τ rss ordinates records ln lm h few nq up bytes =
+      → named ≤ block_count rss → τ.ordinates ≤ n → ratio ≤ k → record_bytes (block_count rss) k ≤ m
+      → accepted named ratio τ rss lent ≡ record { answer = Accepted τ.ordinates (block_count rss) k; work = replicate lent.work 0; ordinates = ordinates; records = records }
+  loop_ends lent k τ rss ordinates records ln lm h few nq up bytes =
       let o = h.flow few nq up in
       let r = h.told bytes in
       rw (h.ratios, ln, lm, sym o, sym r)

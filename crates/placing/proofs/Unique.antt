@@ -4,10 +4,10 @@ use Prim.Native.Nat.{ℕ}
 use mathlib.Core.Path.{◌≡◌, sym, ◌∙◌}
 use mathlib.Core.Bool.{false}
 use mathlib.Core.List.{List}
-use Rattle.sequences.specs.Contracts.{Once, OnceAt}
-use Rattle.blocks.specs.Meant.{nameIs}
-use Rattle.placing.specs.Readings.{readingIs}
-use Rattle.placing.specs.Places.{placedEvent}
+use Rattle.sequences.specs.OneOutcome.{Once, OnceAt}
+use Rattle.blocks.specs.Meant.{name_is}
+use Rattle.placing.specs.Readings.{reading_is}
+use Rattle.placing.specs.Places.{placed_event}
 use Rattle.placing.proofs.first_reading.Kinds as first-reading
 use Rattle.placing.proofs.first_reading.Reads as first-reading-says
 use Rattle.placing.proofs.open_block.Kinds as open_block
@@ -19,18 +19,18 @@ use Rattle.placing.proofs.names.read_name.Reads as read-name-says
 use Rattle.placing.proofs.places.place_record.Kinds as place-record
 use Rattle.placing.proofs.places.place_record.Reads as place-record-says
 
-pub one-first-reading : Once first-reading.ps first-reading.r first-reading-says.Post (λ κs x y e f. readingIs x e.0.now ≡ readingIs y f.0.now)
-one-first-reading κs a x y e f p q = p.is ∙ sym q.is
+pub one_first_reading : Once first-reading.ps first-reading.r first-reading-says.Post (λ κs x y e f. reading_is x e.0.now ≡ reading_is y f.0.now)
+one_first_reading κs a x y e f p q = p.is ∙ sym q.is
 
-pub one-open-block : Once open_block.ps open_block.r open-block-says.Post (λ κs x y e f. readingIs x e.1.1.0.now ≡ readingIs y f.1.1.0.now)
-one-open-block κs a x y e f p q = p.is ∙ sym q.is
+pub one_open_block : Once open_block.ps open_block.r open-block-says.Post (λ κs x y e f. reading_is x e.1.1.0.now ≡ reading_is y f.1.1.0.now)
+one_open_block κs a x y e f p q = p.is ∙ sym q.is
 
-pub one-no-name : Once no_name.ps no_name.r no-name-says.Post (λ κs x y e f. nameIs x ≡ nameIs y)
-one-no-name κs a x y e f p q = p.0 ∙ sym q.0
+pub one_no_name : Once no_name.ps no_name.r no-name-says.Post (λ κs x y e f. name_is x ≡ name_is y)
+one_no_name κs a x y e f p q = p.0 ∙ sym q.0
 
-pub one_name : Once read_name.ps read_name.r read-name-says.Post (λ κs x y e f. (x.bad ≡ y.bad) × (x.bad ≡ false → nameIs x.name ≡ nameIs y.name))
+pub one_name : Once read_name.ps read_name.r read-name-says.Post (λ κs x y e f. (x.bad ≡ y.bad) × (x.bad ≡ false → name_is x.name ≡ name_is y.name))
 one_name κs a x y e f p q = let same = p.bad ∙ sym q.bad in (same, λ h. p.same h ∙ sym (q.same (sym same ∙ h)))
 
 pub one_place : OnceAt place-record.ps place-record.r place-record-says.Post
-    (λ κs a x y e f. (l : List ℕ) → placedEvent x (readingIs a.0 a.1.0.now) l ≡ placedEvent y (readingIs a.0 a.1.0.now) l)
+    (λ κs a x y e f. (l : List ℕ) → placed_event x (reading_is a.0 a.1.0.now) l ≡ placed_event y (reading_is a.0 a.1.0.now) l)
 one_place κs a x y e f p q l = sym (p.0 l) ∙ q.0 l

@@ -1,15 +1,15 @@
 // The name on a KK line, copied out of it.
 ghost use Rattle.std.specs.Prelude.{◌≡◌, [], ◌≤◌, length};
-ghost use Rattle.meaning.specs.Fields.{nameIn};
+ghost use Rattle.meaning.specs.Fields.{name_in};
 ghost use Rattle.fields.specs.Spans.{form_of};
-ghost use Rattle.blocks.specs.Meant.{nameIs};
+ghost use Rattle.blocks.specs.Meant.{name_is};
 ghost use Rattle.placing.specs.Labels.{Labels};
 
 use super::Label;
 use blocks::Name;
 
 pub fn no_name() -> Name
-    ensures { (nameIs result ≡ []) × (result.letters ≤ 6) }
+    ensures { (name_is result ≡ []) × (result.letters ≤ 6) }
 {
     Name {
         bytes: [0u8; 6],
@@ -20,7 +20,7 @@ pub fn no_name() -> Name
 // A name copied out of its line.
 fn copy_name(f: &[u8]) -> Name
     requires { length f.now ≤ 6 }
-    ensures { (nameIs result ≡ f.now) × (result.letters ≤ 6) }
+    ensures { (name_is result ≡ f.now) × (result.letters ≤ 6) }
 {
     let mut bytes = [0u8; 6];
     let letters = bytes::copy(f, &mut bytes);
@@ -32,7 +32,7 @@ fn copy_name(f: &[u8]) -> Name
 
 pub fn read_name(free: bool, l: &[u8]) -> Label
     requires { length l.now ≤ 80 }
-    ensures { Labels (nameIn (form_of free) l.now) result }
+    ensures { Labels (name_in (form_of free) l.now) result }
 {
     let span = fields::name_span(free, l);
     let from = span.from;

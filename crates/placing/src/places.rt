@@ -2,19 +2,19 @@
 ghost use Rattle.std.specs.Prelude.{◌≡◌, List, ℕ, ◌<◌};
 ghost use Rattle.meaning.specs.Words.{◌<?◌};
 ghost use Rattle.meaning.specs.Blocks.{repeated};
-ghost use Rattle.identifiers.specs.Heads.{recordIs, OfTable};
+ghost use Rattle.identifiers.specs.Heads.{record_is, OfTable};
 ghost use Rattle.records.specs.Rows.{items};
-ghost use Rattle.blocks.specs.Meant.{timeIs};
+ghost use Rattle.blocks.specs.Meant.{time_is};
 ghost use Rattle.blocks.specs.Cards.{block_of, Readable};
-ghost use Rattle.placing.specs.Readings.{readingIs};
-ghost use Rattle.placing.specs.Places.{beforeTime, afterTime, beforeBlocks, in_block, PlacedIs, MayRead};
+ghost use Rattle.placing.specs.Readings.{reading_is};
+ghost use Rattle.placing.specs.Places.{before_time, after_time, before_blocks, in_block, PlacedIs, MayRead};
 
 use super::{Phase, Placed, Reading};
 use identifiers::Record;
 
 // A record that stands only before IT, and IT itself.
 fn before_time(phase: Phase, then: Placed) -> Placed
-    ensures { result ≡ beforeTime phase then }
+    ensures { result ≡ before_time phase then }
 {
     match phase {
         Phase::BeforeTime => then,
@@ -25,7 +25,7 @@ fn before_time(phase: Phase, then: Placed) -> Placed
 
 // One that stands only after it.
 fn after_time(phase: Phase, then: Placed) -> Placed
-    ensures { result ≡ afterTime phase then }
+    ensures { result ≡ after_time phase then }
 {
     match phase {
         Phase::BeforeTime => Placed::Misplaced,
@@ -36,7 +36,7 @@ fn after_time(phase: Phase, then: Placed) -> Placed
 
 // The ratios stand between the time control and the first block, and only if none are listed yet.
 fn before_blocks(phase: Phase, listed: usize) -> Placed
-    ensures { result ≡ beforeBlocks phase (0 <? listed) }
+    ensures { result ≡ before_blocks phase (0 <? listed) }
 {
     match phase {
         Phase::BeforeTime => Placed::Misplaced,
@@ -70,7 +70,7 @@ fn in_block(phase: Phase, cards: &[u64], item: usize) -> Placed
 // What a record does where the reading stands.
 pub fn place_record(r: Reading, cards: &[u64], k: Record) -> Placed
     requires { OfTable k × Readable cards.now }
-    ensures { PlacedIs result (readingIs r cards.now) (recordIs k) × MayRead result r.phase (timeIs r.time) cards.now }
+    ensures { PlacedIs result (reading_is r cards.now) (record_is k) × MayRead result r.phase (time_is r.time) cards.now }
 {
     let phase = r.phase;
     match k {

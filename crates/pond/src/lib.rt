@@ -2,20 +2,20 @@
 ghost use Rattle.std.specs.Prelude.{◌≡◌, ◌||◌, ◌++◌, ℕ, ◌+◌, ◌*◌, ◌/◌, ◌≤◌, ◌<◌, length, get_or, take, drop, replicate};
 ghost use Rattle.sequences.specs.Bounds.{AllUpTo};
 ghost use Rattle.meaning.specs.Words.{◌<?◌};
-ghost use Rattle.meaning.specs.Water.{flowLimit};
-ghost use Rattle.meaning.specs.Records.{mostOrdinates};
-ghost use Rattle.meaning.specs.Pool.{poolRow, rows_of, wOf, rowBreaks, rowsBreak, tableBreaks, wAfter, pondedOf, overtopped};
+ghost use Rattle.meaning.specs.Water.{flow_limit};
+ghost use Rattle.meaning.specs.Records.{most_ordinates};
+ghost use Rattle.meaning.specs.Pool.{pool_row, rows_of, w_of, row_breaks, rows_break, table_breaks, w_after, ponded_of, overtopped};
 ghost use Rattle.pond.specs.Tables.{PondTable, row_at};
 ghost use Rattle.pond.specs.Limits.{Interval};
-ghost use Rattle.pond.specs.Spans.{Found, outflowIn, Graded};
-ghost use Rattle.pond.specs.Levels.{riseOf, riseAt, noW, WsOf, RisesOf, spanIn, Listed};
+ghost use Rattle.pond.specs.Spans.{Found, outflow_in, Graded};
+ghost use Rattle.pond.specs.Levels.{rise_of, rise_at, no_w, WsOf, RisesOf, span_in, Listed};
 ghost use Rattle.pond.specs.Searches.{Topped, Climbed, Sunk, Sought, Searchable};
-ghost use Rattle.pond.specs.Turns.{poolOf, outflowsAfter, aboveAfter};
+ghost use Rattle.pond.specs.Turns.{pool_of, outflows_after, above_after};
 
 // THE TABLE, in hundredths, as SV and SQ list it. One row's rules, asked against the row before it.
 fn row_breaks(m: u64, sv: u64, sq: u64, next_sv: u64, next_sq: u64) -> bool
     requires { (m ≤ 1_440) × (next_sv ≤ 9_999_999) × (next_sq ≤ 10_000_000) }
-    ensures { result ≡ rowBreaks m (poolRow sv sq) (poolRow next_sv next_sq) }
+    ensures { result ≡ row_breaks m (pool_row sv sq) (pool_row next_sv next_sq) }
 {
     if next_sv <= sv {
         return true;
@@ -31,7 +31,7 @@ fn rows_break(m: u64, svs: &[u64], sqs: &[u64]) -> bool
     requires m_bound { (m ≤ 1_440) × (length svs.now ≡ length sqs.now) }
     requires all_up_to { AllUpTo 9_999_999 svs.now }
     requires all_up_to_2 { AllUpTo 10_000_000 sqs.now }
-    ensures { result ≡ rowsBreak m (poolRow 0 0) (rows_of (drop 1 svs.now) (drop 1 sqs.now)) }
+    ensures { result ≡ rows_break m (pool_row 0 0) (rows_of (drop 1 svs.now) (drop 1 sqs.now)) }
 {
     let mut sv = 0;
     let mut sq = 0;
@@ -54,7 +54,7 @@ pub fn table_breaks(m: u64, svs: &[u64], sqs: &[u64]) -> bool
     requires m_bound { m ≤ 1_440 }
     requires all_up_to { AllUpTo 9_999_999 svs.now }
     requires all_up_to_2 { AllUpTo 10_000_000 sqs.now }
-    ensures { result ≡ tableBreaks m svs.now sqs.now }
+    ensures { result ≡ table_breaks m svs.now sqs.now }
 {
     if svs.len() != sqs.len() {
         return true;
@@ -86,7 +86,7 @@ struct Span {
 // W of a row.
 fn w_of(m: u64, sv: u64, sq: u64) -> u64
     requires { (m ≤ 1_440) × (sv ≤ 9_999_999) × (sq ≤ 10_000_000) }
-    ensures { result ≡ wOf m (poolRow sv sq) }
+    ensures { result ≡ w_of m (pool_row sv sq) }
 {
     600_000 * (1_452 * sv + m * sq)
 }
@@ -94,7 +94,7 @@ fn w_of(m: u64, sv: u64, sq: u64) -> u64
 fn w_at(m: u64, svs: &[u64], sqs: &[u64], row: usize) -> u64
     requires pond_table { PondTable m svs.now sqs.now }
     requires row_in_bounds { row < length svs.now }
-    ensures { result ≡ wOf m (row_at svs.now sqs.now row) }
+    ensures { result ≡ w_of m (row_at svs.now sqs.now row) }
 {
     w_of(m, svs[row], sqs[row])
 }
@@ -102,7 +102,7 @@ fn w_at(m: u64, svs: &[u64], sqs: &[u64], row: usize) -> u64
 // By how much W rises from a row to the next one, in hundredths.
 fn rise_of(m: u64, sv: u64, sq: u64, next_sv: u64, next_sq: u64) -> u64
     requires { (m ≤ 1_440) × (sv ≤ next_sv) × (next_sv ≤ 9_999_999) × (sq ≤ next_sq) × (next_sq ≤ 10_000_000) }
-    ensures { result ≡ riseOf m sv sq next_sv next_sq }
+    ensures { result ≡ rise_of m sv sq next_sv next_sq }
 {
     1_452 * (next_sv - sv) + m * (next_sq - sq)
 }
@@ -110,7 +110,7 @@ fn rise_of(m: u64, sv: u64, sq: u64, next_sv: u64, next_sq: u64) -> u64
 fn rise_at(m: u64, svs: &[u64], sqs: &[u64], row: usize) -> u64
     requires pond_table { PondTable m svs.now sqs.now }
     requires row_in_bounds { row + 1 < length svs.now }
-    ensures { result ≡ riseAt m svs.now sqs.now row }
+    ensures { result ≡ rise_at m svs.now sqs.now row }
 {
     let next = row + 1;
     rise_of(m, svs[row], sqs[row], svs[next], sqs[next])
@@ -118,7 +118,7 @@ fn rise_at(m: u64, svs: &[u64], sqs: &[u64], row: usize) -> u64
 
 // THE LISTS, made once for all ordinates. Blank ones are functions of their own: a proof that sees how the words came to be counts them one by one.
 fn blank_ws() -> [u64; 21]
-    ensures { result ≡ replicate 21 noW }
+    ensures { result ≡ replicate 21 no_w }
 {
     [18_446_744_073_709_551_615; 21]
 }
@@ -160,7 +160,7 @@ fn list_rises(m: u64, svs: &[u64], sqs: &[u64]) -> [u64; 20]
 // THE SEARCH. The span from a row to the next one, from the lists.
 fn span_at(sqs: &[u64], ws: &[u64], rises: &[u64], row: usize) -> Span
     requires { Listed sqs.now ws.now rises.now row }
-    ensures { result ≡ spanIn sqs.now ws.now rises.now row }
+    ensures { result ≡ span_in sqs.now ws.now rises.now row }
 {
     let next = row + 1;
     let sq = sqs[row];
@@ -235,7 +235,7 @@ fn round_down(share: u64, rise: u64) -> u64
 // At W on a span, or above the last one. W above the row is divided by `rise` first, and what remains is multiplied before it is.
 fn outflow_at(m: u64, s: Span, w: u64) -> u64
     requires { (m ≤ 1_440) × Graded s w }
-    ensures { result ≡ outflowIn s w }
+    ensures { result ≡ outflow_in s w }
 {
     if s.high < w {
         return s.out + 600_000 * s.more;
@@ -257,8 +257,8 @@ fn is_over(over: bool, high: u64, w: u64) -> bool
 
 // W after an interval.
 fn w_after(m: u64, w: u64, old_in: u64, new_in: u64, old_out: u64) -> u64
-    requires { (w ≤ 5_184_000_000_000_000_000) × Interval m (poolOf w old_in old_out) new_in }
-    ensures { result ≡ wAfter m (poolOf w old_in old_out) new_in }
+    requires { (w ≤ 5_184_000_000_000_000_000) × Interval m (pool_of w old_in old_out) new_in }
+    ensures { result ≡ w_after m (pool_of w old_in old_out) new_in }
 {
     w + m * (old_in + new_in) - 2 * m * old_out
 }
@@ -276,10 +276,10 @@ fn pass_on(
     requires pond_table { PondTable m svs.now sqs.now }
     requires ws_of { WsOf m svs.now sqs.now ws.now }
     requires rises_of { RisesOf m svs.now sqs.now rises.now }
-    requires q_nonzero { (0 < length q.old) × (length q.old ≤ mostOrdinates) × (first ≤ flowLimit) }
-    requires all_up_to { AllUpTo flowLimit q.old }
-    ensures q_after { q.new ≡ take 1 q.old ++ outflowsAfter m (rows_of svs.now sqs.now) (poolOf 0 first 0) (drop 1 q.old) }
-    ensures over { result ≡ aboveAfter m (rows_of svs.now sqs.now) (poolOf 0 first 0) (drop 1 q.old) }
+    requires q_nonzero { (0 < length q.old) × (length q.old ≤ most_ordinates) × (first ≤ flow_limit) }
+    requires all_up_to { AllUpTo flow_limit q.old }
+    ensures q_after { q.new ≡ take 1 q.old ++ outflows_after m (rows_of svs.now sqs.now) (pool_of 0 first 0) (drop 1 q.old) }
+    ensures over { result ≡ above_after m (rows_of svs.now sqs.now) (pool_of 0 first 0) (drop 1 q.old) }
 {
     let mut w = 0;
     let mut old_in = first;
@@ -303,9 +303,9 @@ fn pass_on(
 // A hydrograph through a pond, in place: its outflows, and whether W ever passed the last row, which is refusal 20.
 pub fn pass_pool(q: &mut [u64], m: u64, svs: &[u64], sqs: &[u64]) -> bool
     requires pond_table { PondTable m svs.now sqs.now }
-    requires q_len_bound { length q.old ≤ mostOrdinates }
-    requires all_up_to { AllUpTo flowLimit q.old }
-    ensures q_after { q.new ≡ pondedOf m (rows_of svs.now sqs.now) q.old }
+    requires q_len_bound { length q.old ≤ most_ordinates }
+    requires all_up_to { AllUpTo flow_limit q.old }
+    ensures q_after { q.new ≡ ponded_of m (rows_of svs.now sqs.now) q.old }
     ensures over { result ≡ overtopped m (rows_of svs.now sqs.now) q.old }
 {
     if q.len() == 0 {

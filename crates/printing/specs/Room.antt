@@ -1,76 +1,76 @@
 -- How much room a listing takes.
---     lines-short    each of the lines of some records has at most lineSize bytes
---     ratio-short    the line of a ratio has at most ratioSize
---     lot-fits       the records of each ratio are within those of all
---     under-short    each ratio and its records take at most their part of linesSize; blocks-short: and so all
---     listed-few     the ratios listed are no more than those of the records; one-there: of these there is one
---     end_short      the last line has at most endSize
+--     lines_short    each of the lines of some records has at most line_size bytes
+--     ratio_short    the line of a ratio has at most ratio_size
+--     lot_fits       the records of each ratio are within those of all
+--     under_short    each ratio and its records take at most their part of lines_size; blocks_short: and so all
+--     listed_few     the ratios listed are no more than those of the records; one_there: of these there is one
+--     end_short      the last line has at most end_size
 use Rattle.std.specs.Prelude.{List, [], ◌∷◌, ◌++◌, ℕ, zero, suc, ◌+◌, ◌*◌, ◌/◌, ◌^◌, ◌≤◌, ◌<◌, length, drop, get_or}
 use Rattle.std.proofs.Common.{le_refl, mul-le-mul_left, arith, length-append, length-drop, get_or-drop}
-use Rattle.meaning.specs.Results.{recordSize}
-use Rattle.meaning.specs.Blocks.{orWhole}
-use Rattle.meaning.specs.Run.{recordBytes}
-use Rattle.meaning.specs.Listing.{ratioLine, endLine}
-use Rattle.sequences.specs.Bounds.{AllUpTo, bound-part}
+use Rattle.meaning.specs.Results.{record_size}
+use Rattle.meaning.specs.Blocks.{or_whole}
+use Rattle.meaning.specs.Run.{record_bytes}
+use Rattle.meaning.specs.Listing.{ratio_line, end_line}
+use Rattle.sequences.specs.Bounds.{AllUpTo, bound_part}
 use Rattle.sequences.specs.Parts.{part, length_part}
-use Rattle.text.specs.Digits.{whole-short, length-twoPlaces}
-use Rattle.figures.specs.Line.{line_of, lineSize}
-use Rattle.figures.specs.Room.{line-short}
-use Rattle.printing.specs.Sizes.{mostRatio, ratioSize, linesSize, endSize}
-use Rattle.printing.specs.Lines.{linesTo, underTo, blocksText, length-ratio, length-end}
+use Rattle.text.specs.Digits.{whole_short, length-two_places}
+use Rattle.figures.specs.Line.{line_of, line_size}
+use Rattle.figures.specs.Room.{line_short}
+use Rattle.printing.specs.Sizes.{most_ratio, ratio_size, lines_size, end_size}
+use Rattle.printing.specs.Lines.{lines_to, under_to, blocks_text, length-ratio, length-end}
 
-pub lines-short : (k : ℕ) (records : List ℕ) → AllUpTo 255 records → recordSize * k ≤ length records → length (linesTo k records) ≤ lineSize * k
-lines-short zero records bytes long = omega arith
-lines-short (suc k) records bytes long =
-    let fits : recordSize * k + recordSize ≤ length records = omega arith in
-    let before : recordSize * k ≤ length records = omega arith in
-    let r = part (recordSize * k) recordSize records in
-    rw (length-append (linesTo k records) (line_of r))
-    (omega (arith, lines-short k records bytes before, line-short r (bound-part 255 (recordSize * k) recordSize records bytes) (length_part (recordSize * k) recordSize records fits)))
+pub lines_short : (k : ℕ) (records : List ℕ) → AllUpTo 255 records → record_size * k ≤ length records → length (lines_to k records) ≤ line_size * k
+lines_short zero records bytes long = omega arith
+lines_short (suc k) records bytes long =
+    let fits : record_size * k + record_size ≤ length records = omega arith in
+    let before : record_size * k ≤ length records = omega arith in
+    let r = part (record_size * k) record_size records in
+    rw (length-append (lines_to k records) (line_of r))
+    (omega (arith, lines_short k records bytes before, line_short r (bound_part 255 (record_size * k) record_size records bytes) (length_part (record_size * k) record_size records fits)))
 
-pub ratio-short : (ratio : ℕ) → ratio ≤ mostRatio → length (ratioLine ratio) ≤ ratioSize
-ratio-short ratio low = omega (arith, length-ratio ratio, length-twoPlaces ratio, whole-short 0 (ratio / 100) (omega arith))
+pub ratio_short : (ratio : ℕ) → ratio ≤ most_ratio → length (ratio_line ratio) ≤ ratio_size
+ratio_short ratio low = omega (arith, length-ratio ratio, length-two_places ratio, whole_short 0 (ratio / 100) (omega arith))
 
 -- so many lots are no more than all, and one more is one lot more
-pub lots-up : (size k n : ℕ) → k < n → size * k + size ≤ size * n
-lots-up size k n below = omega (arith, mul-le-mul_left size below)
+pub lots_up : (size k n : ℕ) → k < n → size * k + size ≤ size * n
+lots_up size k n below = omega (arith, mul-le-mul_left size below)
 
-pub lot-fits : (blocks k n : ℕ) → k < n → recordBytes blocks k + recordSize * blocks ≤ recordBytes blocks n
-lot-fits blocks k n below = omega (arith, lots-up blocks k n below)
+pub lot_fits : (blocks k n : ℕ) → k < n → record_bytes blocks k + record_size * blocks ≤ record_bytes blocks n
+lot_fits blocks k n below = omega (arith, lots_up blocks k n below)
 
 -- the bytes of a lot
 pub bytes_on : (p : ℕ) (records : List ℕ) → AllUpTo 255 records → AllUpTo 255 (drop p records)
 bytes_on p records bytes k = rw get_or-drop (bytes (p + k))
 
-module _ (ratios : List ℕ) (blocks : ℕ) (records : List ℕ) (small : AllUpTo mostRatio ratios) (bytes : AllUpTo 255 records) where
-  pub lot-short : (k : ℕ) → recordBytes blocks k + recordSize * blocks ≤ length records → length (linesTo blocks (drop (recordBytes blocks k) records)) ≤ lineSize * blocks
-  lot-short k long = lines-short blocks (drop (recordBytes blocks k) records) (bytes_on (recordBytes blocks k) records bytes) (simp length-drop (omega arith))
+module _ (ratios : List ℕ) (blocks : ℕ) (records : List ℕ) (small : AllUpTo most_ratio ratios) (bytes : AllUpTo 255 records) where
+  pub lot_short : (k : ℕ) → record_bytes blocks k + record_size * blocks ≤ length records → length (lines_to blocks (drop (record_bytes blocks k) records)) ≤ line_size * blocks
+  lot_short k long = lines_short blocks (drop (record_bytes blocks k) records) (bytes_on (record_bytes blocks k) records bytes) (simp length-drop (omega arith))
 
-  pub under-short : (k : ℕ) → recordBytes blocks k ≤ length records → length (underTo k ratios blocks records) ≤ linesSize blocks k
-  under-short zero long = omega arith
-  under-short (suc k) long =
-      let here = lot-fits blocks k (suc k) (omega arith) in
-      let ratio = ratio-short (get_or ratios k 0) (small k) in
-      let lines = lot-short k (omega arith) in
+  pub under_short : (k : ℕ) → record_bytes blocks k ≤ length records → length (under_to k ratios blocks records) ≤ lines_size blocks k
+  under_short zero long = omega arith
+  under_short (suc k) long =
+      let here = lot_fits blocks k (suc k) (omega arith) in
+      let ratio = ratio_short (get_or ratios k 0) (small k) in
+      let lines = lot_short k (omega arith) in
       rw (
-        length-append (underTo k ratios blocks records) (ratioLine (get_or ratios k 0) ++ linesTo blocks (drop (recordBytes blocks k) records)),
-        length-append (ratioLine (get_or ratios k 0)) (linesTo blocks (drop (recordBytes blocks k) records)),
+        length-append (under_to k ratios blocks records) (ratio_line (get_or ratios k 0) ++ lines_to blocks (drop (record_bytes blocks k) records)),
+        length-append (ratio_line (get_or ratios k 0)) (lines_to blocks (drop (record_bytes blocks k) records)),
       )
-      (omega (arith, under-short k (omega arith), lots-up (ratioSize + lineSize * blocks) k (suc k) (omega arith)))
+      (omega (arith, under_short k (omega arith), lots_up (ratio_size + line_size * blocks) k (suc k) (omega arith)))
 
-pub blocks-short : (ratios : List ℕ) (blocks : ℕ) (records : List ℕ) → AllUpTo mostRatio ratios → AllUpTo 255 records
-    → recordBytes blocks (length (orWhole ratios)) ≤ length records → length (blocksText ratios blocks records) ≤ linesSize blocks (length (orWhole ratios))
-blocks-short [] blocks records small bytes long = omega (arith, lines-short blocks records bytes (omega arith))
-blocks-short (r ∷ ratios) blocks records small bytes long = under-short (r ∷ ratios) blocks records small bytes (length (r ∷ ratios)) long
+pub blocks_short : (ratios : List ℕ) (blocks : ℕ) (records : List ℕ) → AllUpTo most_ratio ratios → AllUpTo 255 records
+    → record_bytes blocks (length (or_whole ratios)) ≤ length records → length (blocks_text ratios blocks records) ≤ lines_size blocks (length (or_whole ratios))
+blocks_short [] blocks records small bytes long = omega (arith, lines_short blocks records bytes (omega arith))
+blocks_short (r ∷ ratios) blocks records small bytes long = under_short (r ∷ ratios) blocks records small bytes (length (r ∷ ratios)) long
 
 -- the ratios listed are no more than those of the records, and of these there is one
-pub listed-few : (ratios : List ℕ) → length ratios ≤ length (orWhole ratios)
-listed-few [] = omega arith
-listed-few (r ∷ ratios) = le_refl (suc (length ratios))
+pub listed_few : (ratios : List ℕ) → length ratios ≤ length (or_whole ratios)
+listed_few [] = omega arith
+listed_few (r ∷ ratios) = le_refl (suc (length ratios))
 
-pub one-there : (ratios : List ℕ) → 0 < length (orWhole ratios)
-one-there [] = omega arith
-one-there (r ∷ ratios) = omega arith
+pub one_there : (ratios : List ℕ) → 0 < length (or_whole ratios)
+one_there [] = omega arith
+one_there (r ∷ ratios) = omega arith
 
-pub end_short : (blocks : ℕ) → blocks < 10 ^ 20 → length (endLine blocks) ≤ endSize
-end_short blocks h = omega (arith, length-end blocks, whole-short 19 blocks h)
+pub end_short : (blocks : ℕ) → blocks < 10 ^ 20 → length (end_line blocks) ≤ end_size
+end_short blocks h = omega (arith, length-end blocks, whole_short 19 blocks h)

@@ -1,6 +1,6 @@
 // Reading a deck from line to line, to the next event: a line that is refused, opens a block or ends the deck. It knows no hydrograph.
 ghost use Rattle.std.specs.Prelude.{◌≤◌, length};
-ghost use Rattle.placing.specs.Readings.{readingIs, Ready};
+ghost use Rattle.placing.specs.Readings.{reading_is, Ready};
 ghost use Rattle.reading.specs.Found.{Gets};
 
 use blocks::Name;
@@ -32,7 +32,7 @@ pub struct Got {
 pub fn read_on(s: &[u8], from: usize, before: u64, start: Reading, cards: &mut [u64]) -> Got
     requires from_in_bounds { (from ≤ length s.now) × (before ≤ from) }
     requires ready { Ready start cards.old }
-    ensures { Gets s.now from before (readingIs start cards.old) result cards.new }
+    ensures { Gets s.now from before (reading_is start cards.old) result cards.new }
 {
     let mut at = from;
     let mut n = before;

@@ -2,21 +2,21 @@
 // goes by. Each function that writes answers the place behind what it wrote.
 ghost use Rattle.std.specs.Prelude.{◌≡◌, false, [], ◌∷◌, ◌++◌, suc, ◌+◌, ◌≤◌, ◌<◌, max, length};
 ghost use Rattle.meaning.specs.Lines.{lf, blank, foreign};
-ghost use Rattle.meaning.specs.Fields.{fields_of, nameIn};
+ghost use Rattle.meaning.specs.Fields.{fields_of, name_in};
 ghost use Rattle.meaning.specs.Numbers.{number_of};
-ghost use Rattle.meaning.specs.Records.{ruleAt};
+ghost use Rattle.meaning.specs.Records.{rule_at};
 ghost use Rattle.meaning.specs.Words.{bytes};
 ghost use Rattle.meaning.specs.Listing.{whole};
 ghost use Rattle.meaning.specs.Run.{Holds};
-ghost use Rattle.meaning.specs.Reasons.{numberReason, fieldReason, fieldLine, firstField, refusedBy, recordReason, headReason, reason};
+ghost use Rattle.meaning.specs.Reasons.{number_reason, field_reason, field_line, first_field, refused_by, record_reason, head_reason, reason};
 ghost use Rattle.text.specs.Written.{Written};
 ghost use Rattle.text.specs.Counted.{Counted};
 ghost use Rattle.fields.specs.Spans.{form_of};
-ghost use Rattle.rules.specs.Rules.{ruleBy, FewPlaces};
+ghost use Rattle.rules.specs.Rules.{rule_by, FewPlaces};
 ghost use Rattle.records.specs.Rows.{items};
-ghost use Rattle.identifiers.specs.Heads.{recordIs, OfTable, headIs, plainHead};
-ghost use Rattle.reasons.specs.Sizes.{rulesSize, whySize, reasonSize};
-ghost use Rattle.reasons.specs.Stated.{statedRules, statedFields, named_in};
+ghost use Rattle.identifiers.specs.Heads.{record_is, OfTable, head_is, plain_head};
+ghost use Rattle.reasons.specs.Sizes.{rules_size, why_size, reason_size};
+ghost use Rattle.reasons.specs.Stated.{stated_rules, stated_fields, named_in};
 ghost use Rattle.reasons.specs.ByRecord.{raised};
 
 use identifiers::{Head, Record};
@@ -28,7 +28,7 @@ pub const REASON: usize = 199;
 
 // A word, and a rule's three numbers.
 fn write_rule(out: &mut [u8], at: usize, word: &[u8], most: u64, low: u64, high: u64) -> usize
-    requires { at + length word.now + rulesSize ≤ length out.old }
+    requires { at + length word.now + rules_size ≤ length out.old }
     ensures { Written out.old at (word.now ++ (blank ∷ whole most) ++ (blank ∷ whole low) ++ (blank ∷ whole high)) out.new result }
 {
     let second = text::write_text(out, at, word);
@@ -46,8 +46,8 @@ fn write_number_reason(
     high: u64,
     f: &[u8],
 ) -> usize
-    requires { at + whySize ≤ length out.old }
-    ensures { Written out.old at (numberReason places low high (number_of f.now)) out.new result }
+    requires { at + why_size ≤ length out.old }
+    ensures { Written out.old at (number_reason places low high (number_of f.now)) out.new result }
 {
     match numbers::read_number(f) {
         Number::NoNumber => write_rule(out, at, b"NUMBER", places, low, high),
@@ -63,8 +63,8 @@ fn write_number_reason(
 
 // What is wrong with a field by its rule.
 fn write_field_reason(out: &mut [u8], at: usize, rule: Rule, f: &[u8]) -> usize
-    requires { at + whySize ≤ length out.old }
-    ensures { Written out.old at (fieldReason (ruleBy rule) f.now) out.new result }
+    requires { at + why_size ≤ length out.old }
+    ensures { Written out.old at (field_reason (rule_by rule) f.now) out.new result }
 {
     match rule {
         Rule::Unnamed => text::write_text(out, at, b"BLANK"),
@@ -76,8 +76,8 @@ fn write_field_reason(out: &mut [u8], at: usize, rule: Rule, f: &[u8]) -> usize
 
 // The line of field `k`, from 1.
 fn write_field(out: &mut [u8], k: u64, rule: Rule, f: &[u8]) -> usize
-    requires { (length f.now ≤ 80) × (reasonSize ≤ length out.old) }
-    ensures { Written out.old 0 (fieldLine k (ruleBy rule) f.now) out.new result }
+    requires { (length f.now ≤ 80) × (reason_size ≤ length out.old) }
+    ensures { Written out.old 0 (field_line k (rule_by rule) f.now) out.new result }
 {
     let number = text::write_text(out, 0, b"FIELD ");
     let blank = text::write_whole(out, number, k);
@@ -90,7 +90,7 @@ fn write_field(out: &mut [u8], k: u64, rule: Rule, f: &[u8]) -> usize
 
 // A rule with 1 for the lowest value of a number.
 fn raise(rule: Rule) -> Rule
-    ensures { ruleBy result ≡ raised (ruleBy rule) }
+    ensures { rule_by result ≡ raised (rule_by rule) }
 {
     match rule {
         Rule::Unnamed => Rule::Unnamed,
@@ -102,7 +102,7 @@ fn raise(rule: Rule) -> Rule
 
 // The rule of field `k` of a record, from 0, as the table states it. The reading lets a ratio of 0 pass, and refuses it at the line's end: its lowest is 1.
 fn stated_rule(item: usize, k: usize) -> Rule
-    ensures { (ruleBy result ≡ ruleAt (statedRules item) k) × FewPlaces (ruleBy result) }
+    ensures { (rule_by result ≡ rule_at (stated_rules item) k) × FewPlaces (rule_by result) }
 {
     let rule = records::rule_at(item, k);
     if item == records::JR {
@@ -113,8 +113,8 @@ fn stated_rule(item: usize, k: usize) -> Rule
 
 // Whether a field is refused by 6, or else by 7.
 fn is_refused(six: bool, rule: Rule, f: &[u8]) -> bool
-    requires { FewPlaces (ruleBy rule) }
-    ensures { result ≡ refusedBy six (ruleBy rule) f.now }
+    requires { FewPlaces (rule_by rule) }
+    ensures { result ≡ refused_by six (rule_by rule) f.now }
 {
     match rules::read_field(rule, f) {
         Field::Faulty => six,
@@ -160,7 +160,7 @@ fn named_fields(item: usize) -> usize
 // How many fields of a line are looked at: those that it has, and those that the record names.
 fn fields_to_see(free: bool, item: usize, l: &[u8]) -> usize
     requires { (item ≤ suc items) × (length l.now ≤ 80) }
-    ensures { (result ≡ length (statedFields item (fields_of (form_of free) l.now))) × (result ≤ 80) }
+    ensures { (result ≡ length (stated_fields item (fields_of (form_of free) l.now))) × (result ≤ 80) }
 {
     let count = count_fields(free, l);
     let named = named_fields(item);
@@ -172,8 +172,8 @@ fn fields_to_see(free: bool, item: usize, l: &[u8]) -> usize
 
 // The first field of a record's line that is refused; nothing where none is.
 fn write_fields(out: &mut [u8], six: bool, free: bool, item: usize, l: &[u8]) -> usize
-    requires { (item ≤ suc items) × (length l.now ≤ 80) × (reasonSize ≤ length out.old) }
-    ensures { Written out.old 0 (firstField (refusedBy six) (statedRules item) 0 (statedFields item (fields_of (form_of free) l.now))) out.new result }
+    requires { (item ≤ suc items) × (length l.now ≤ 80) × (reason_size ≤ length out.old) }
+    ensures { Written out.old 0 (first_field (refused_by six) (stated_rules item) 0 (stated_fields item (fields_of (form_of free) l.now))) out.new result }
 {
     let all = fields_to_see(free, item, l);
     let mut c = fields::first_place(free, l);
@@ -194,8 +194,8 @@ fn write_fields(out: &mut [u8], six: bool, free: bool, item: usize, l: &[u8]) ->
 
 // The name of a block.
 fn write_name(out: &mut [u8], free: bool, l: &[u8]) -> usize
-    requires { (length l.now ≤ 80) × (reasonSize ≤ length out.old) }
-    ensures { Written out.old 0 (bytes "NAME " ++ nameIn (form_of free) l.now ++ (lf ∷ [])) out.new result }
+    requires { (length l.now ≤ 80) × (reason_size ≤ length out.old) }
+    ensures { Written out.old 0 (bytes "NAME " ++ name_in (form_of free) l.now ++ (lf ∷ [])) out.new result }
 {
     let span = fields::name_span(free, l);
     let from = span.from;
@@ -207,8 +207,8 @@ fn write_name(out: &mut [u8], free: bool, l: &[u8]) -> usize
 
 // By the record that a line holds.
 fn write_record(out: &mut [u8], six: bool, free: bool, l: &[u8], k: Record) -> usize
-    requires { OfTable k × (length l.now ≤ 80) × (reasonSize ≤ length out.old) }
-    ensures { Written out.old 0 (recordReason six (form_of free) l.now (recordIs k)) out.new result }
+    requires { OfTable k × (length l.now ≤ 80) × (reason_size ≤ length out.old) }
+    ensures { Written out.old 0 (record_reason six (form_of free) l.now (record_is k)) out.new result }
 {
     match k {
         Record::It => write_fields(out, six, free, records::IT, l),
@@ -225,8 +225,8 @@ fn write_record(out: &mut [u8], six: bool, free: bool, l: &[u8], k: Record) -> u
 
 // A line that passed 3.
 fn write_line(out: &mut [u8], six: bool, free: bool, l: &[u8]) -> usize
-    requires { (foreign l.now ≡ false) × (length l.now ≤ 80) × (reasonSize ≤ length out.old) }
-    ensures { Written out.old 0 (headReason six (form_of free) l.now (plainHead l.now)) out.new result }
+    requires { (foreign l.now ≡ false) × (length l.now ≤ 80) × (reason_size ≤ length out.old) }
+    ensures { Written out.old 0 (head_reason six (form_of free) l.now (plain_head l.now)) out.new result }
 {
     match identifiers::head_of(l) {
         Head::Holds(k) => write_record(out, six, free, l, k),
@@ -237,7 +237,7 @@ fn write_line(out: &mut [u8], six: bool, free: bool, l: &[u8]) -> usize
 
 // Why the first line of `s` is refused by 6, or else by 7, in free form or in fixed form.
 pub fn reason_line(s: &[u8], six: bool, free: bool, out: &mut [u8]) -> usize
-    requires { reasonSize ≤ length out.old }
+    requires { reason_size ≤ length out.old }
     ensures told { Written out.old 0 (reason six (form_of free) s.now) out.new result }
     ensures counted { Counted result out.new }
 {

@@ -1,11 +1,11 @@
 // The table of records, as the code has it: a place for each record, the region of the open block's words that its values have, how it stands, its identifier,
 // and the rules of its fields. A further record is one entry more in each table here, and its rules.
 ghost use Rattle.std.specs.Prelude.{◌≡◌, suc, ◌≤◌, ◌<◌};
-ghost use Rattle.meaning.specs.Records.{row_of, ruleAt, faultyField, outsideField, value_of};
-ghost use Rattle.records.specs.Rows.{items, fieldRow, rulesBy, start, wayIn, spanIn, spanBy, mostBy};
-ghost use Rattle.rules.specs.Rules.{ruleBy, FieldIs};
-ghost use Rattle.records.specs.OwnRules.{ownRule};
-ghost use Rattle.records.specs.Keys.{keyIn, placeOf};
+ghost use Rattle.meaning.specs.Records.{row_of, rule_at, faulty_field, outside_field, value_of};
+ghost use Rattle.records.specs.Rows.{items, field_row, rules_by, start, way_in, span_in, span_by, most_by};
+ghost use Rattle.rules.specs.Rules.{rule_by, FieldIs};
+ghost use Rattle.records.specs.OwnRules.{own_rule};
+ghost use Rattle.records.specs.Keys.{key_in, place_of};
 
 use rules::{Field, Rule};
 
@@ -71,14 +71,14 @@ pub fn start_of(item: usize) -> usize
 
 pub fn way_of(item: usize) -> u8
     requires { item < items }
-    ensures { result ≡ wayIn (row_of item) }
+    ensures { result ≡ way_in (row_of item) }
 {
     WAYS[item]
 }
 
 // How many of a line's values are the record's: those of its fields, for which there is room, or as many as are listed.
 pub fn span_by(way: u8, room: usize, count: usize) -> usize
-    ensures { result ≡ spanBy way room count }
+    ensures { result ≡ span_by way room count }
 {
     if way == 0 {
         return room;
@@ -88,7 +88,7 @@ pub fn span_by(way: u8, room: usize, count: usize) -> usize
 
 // The most values that a record has in a block.
 pub fn most_by(way: u8, room: usize, nq: usize) -> usize
-    ensures { result ≡ mostBy way room nq }
+    ensures { result ≡ most_by way room nq }
 {
     if way == 2 {
         return nq;
@@ -98,21 +98,21 @@ pub fn most_by(way: u8, room: usize, nq: usize) -> usize
 
 pub fn named_fields(item: usize) -> usize
     requires { item ≤ suc items }
-    ensures { result ≡ spanIn (fieldRow item) 0 }
+    ensures { result ≡ span_in (field_row item) 0 }
 {
     wide(NAMED[item]) as usize
 }
 
 fn key_at(item: usize) -> u64
     requires { item < items }
-    ensures { result ≡ keyIn (row_of item) }
+    ensures { result ≡ key_in (row_of item) }
 {
     wide(KEYS[item])
 }
 
 // The place of the record with that identifier, or RECORDS where there is none.
 pub fn place_of(key: u64) -> usize
-    ensures { (result ≡ placeOf key) × (result ≤ items) }
+    ensures { (result ≡ place_of key) × (result ≤ items) }
 {
     let mut i: usize = 0;
     while i < RECORDS {
@@ -128,7 +128,7 @@ pub fn place_of(key: u64) -> usize
 // What is no record of a block comes first, so that a further record's arm is put behind all others and moves none of them, here and in the proof.
 // A ratio of 0 passes here: which blank fields stand behind the last ratio is known only at the line's end, and there a 0 among the ratios is refused.
 fn own_rule(item: usize, k: usize) -> Rule
-    ensures { ruleBy result ≡ ownRule (fieldRow item) k }
+    ensures { rule_by result ≡ own_rule (field_row item) k }
 {
     match item {
         IT => match k {
@@ -184,7 +184,7 @@ fn own_rule(item: usize, k: usize) -> Rule
 
 // The same for any field: a line has ten at most.
 pub fn rule_at(item: usize, k: usize) -> Rule
-    ensures { ruleBy result ≡ ruleAt (rulesBy item) k }
+    ensures { rule_by result ≡ rule_at (rules_by item) k }
 {
     if 10 <= k {
         return Rule::Unnamed;
@@ -194,7 +194,7 @@ pub fn rule_at(item: usize, k: usize) -> Rule
 
 // Field `k` of a record, counted from 0.
 pub fn field_at(item: usize, k: usize, f: &[u8]) -> Field
-    ensures { FieldIs result (faultyField (ruleAt (rulesBy item) k) f.now) (outsideField (ruleAt (rulesBy item) k) f.now) (value_of (ruleAt (rulesBy item) k) f.now) }
+    ensures { FieldIs result (faulty_field (rule_at (rules_by item) k) f.now) (outside_field (rule_at (rules_by item) k) f.now) (value_of (rule_at (rules_by item) k) f.now) }
 {
     rules::read_field(rule_at(item, k), f)
 }

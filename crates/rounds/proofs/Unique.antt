@@ -5,84 +5,84 @@ use mathlib.Core.Path.{◌≡◌, sym, ap, ◌∙◌}
 use mathlib.Core.Bool.{Bool, true, false, true≢false}
 use mathlib.Core.List.{List, [], ◌++◌}
 use lib.ListN.{length, replicate}
-use Rattle.sequences.specs.Contracts.{Once, OnceAt}
-use Rattle.meaning.specs.Blocks.{Time, orWhole}
+use Rattle.sequences.specs.OneOutcome.{Once, OnceAt}
+use Rattle.meaning.specs.Blocks.{Time, or_whole}
 use Rattle.meaning.specs.Results.{Result}
 use Rattle.meaning.specs.Run as run
-use Rattle.meaning.specs.Run.{Stopped, Done, worked, namedFlow, namedRatio, allRecords, recordBytes}
-use Rattle.blocks.specs.Meant.{ratiosIs}
+use Rattle.meaning.specs.Run.{Stopped, Done, worked, named_flow, named_ratio, all_records, record_bytes}
+use Rattle.blocks.specs.Meant.{ratios_is}
 use Rattle.turns.specs.declared.Worked.{Worked}
 use Rattle.walking.specs.declared.Walked.{Walked}
-use Rattle.walking.specs.Said.{saidBy, said, said_of}
+use Rattle.walking.specs.Said.{said_by, said, said_of}
 use Rattle.rounds.specs.declared.Wanted.{Wanted}
 use Rattle.rounds.specs.Every.{EveryDone, EveryBy, EveryIs}
 use Rattle.rounds.proofs.walk_every.Kinds as walk-every
 use Rattle.rounds.proofs.walk_every.Reads as walk-every-says
 
 said-by : (t : Bool) (deck : List ℕ) (wanted : Wanted) (n m : ℕ) (listed : List ℕ) (w : Worked) (ordinates records : List ℕ) → EveryBy t deck wanted n m listed w ordinates records
-    → saidBy t w.number w.line w.nq w.blocks listed ≡ said_of (worked deck)
+    → said_by t w.number w.line w.nq w.blocks listed ≡ said_of (worked deck)
 said-by true deck wanted n m listed w ordinates records e = rw e
 said-by false deck wanted n m listed w ordinates records d = rw (d.done, d.ordinates-are, d.blocks-are, d.listed-are)
 
-said-is : (deck : List ℕ) (wanted : Wanted) (n m : ℕ) (w : Walked) (ordinates records : List ℕ) → EveryIs deck wanted n m w ordinates records → said w ≡ said_of (worked deck)
-said-is deck wanted n m w ordinates records p = said-by w.worked.refused deck wanted n m (ratiosIs w.ratios) w.worked ordinates records p.every
+said_is : (deck : List ℕ) (wanted : Wanted) (n m : ℕ) (w : Walked) (ordinates records : List ℕ) → EveryIs deck wanted n m w ordinates records → said w ≡ said_of (worked deck)
+said_is deck wanted n m w ordinates records p = said-by w.worked.refused deck wanted n m (ratios_is w.ratios) w.worked ordinates records p.every
 
 pub said-once : Once walk-every.ps walk-every.r walk-every-says.Post (λ κs x y e f. said x ≡ said y)
-said-once κs a x y e f p q = said-is _ _ _ _ x _ _ p ∙ sym (said-is _ _ _ _ y _ _ q)
+said-once κs a x y e f p q = said_is _ _ _ _ x _ _ p ∙ sym (said_is _ _ _ _ y _ _ q)
 
-resultsOf : run.Worked → List (List Result)
-resultsOf (Stopped number line) = []
-resultsOf (Done τ rss) = rss
+results_of : run.Worked → List (List Result)
+results_of (Stopped number line) = []
+results_of (Done τ rss) = rss
 
 -- a refused deck has none
-abbrev timeOf : run.Worked → Time
-timeOf (Stopped number line) = record { minutes = 0; ordinates = 0; ratio = 0; listed = [] }
-timeOf (Done τ rss) = τ
+abbrev time_of : run.Worked → Time
+time_of (Stopped number line) = record { minutes = 0; ordinates = 0; ratio = 0; listed = [] }
+time_of (Done τ rss) = τ
 
-module _ (deck : List ℕ) (wanted : Wanted) (n m : ℕ) (listed : List ℕ) (nq blocks : ℕ) (known : wanted.block ≤ blocks) (flows : nq ≤ n) (rated : wanted.ratio ≤ length (orWhole listed))
-    (room : recordBytes blocks (length (orWhole listed)) ≤ m) where
+module _ (deck : List ℕ) (wanted : Wanted) (n m : ℕ) (listed : List ℕ) (nq blocks : ℕ) (known : wanted.block ≤ blocks) (flows : nq ≤ n) (rated : wanted.ratio ≤ length (or_whole listed))
+    (room : record_bytes blocks (length (or_whole listed)) ≤ m) where
   abbrev time : Time
-  time = timeOf (worked deck)
+  time = time_of (worked deck)
 
   abbrev results : List (List Result)
-  results = resultsOf (worked deck)
+  results = results_of (worked deck)
 
   module _ (ordinates records : List ℕ) (d : EveryDone deck wanted n m listed nq blocks ordinates records) where
-    results-are : d.results ≡ results
-    unfolding resultsOf
-    results-are = rw d.done
+    results_are : d.results ≡ results
+    unfolding results_of
+    results_are = rw d.done
 
-    records-are : records ≡ allRecords time 0 results ++ replicate (m - recordBytes blocks (length (orWhole listed))) 0
-    unfolding resultsOf
-    records-are =
+    records_are : records ≡ all_records time 0 results ++ replicate (m - record_bytes blocks (length (or_whole listed))) 0
+    unfolding results_of
+    records_are =
         let h = d.holds.told (rw d.blocks-are room) in
         let told = rw d.blocks-are at h in
-        told ∙ ap (λ (w : run.Worked). allRecords (timeOf w) 0 (resultsOf w) ++ replicate (m - recordBytes blocks (length (orWhole listed))) 0) (sym d.done)
+        told ∙ ap (λ (w : run.Worked). all_records (time_of w) 0 (results_of w) ++ replicate (m - record_bytes blocks (length (or_whole listed))) 0) (sym d.done)
 
-    flow-is : ordinates ≡ namedFlow wanted.block (namedRatio wanted.ratio results) ++ replicate (n - nq) 0
-    flow-is =
+    flow_is : ordinates ≡ named_flow wanted.block (named_ratio wanted.ratio results) ++ replicate (n - nq) 0
+    flow_is =
         let h = d.holds.flow (rw d.blocks-are known) (rw d.ordinates-are flows) rated in
         let flow = rw d.ordinates-are at h in
-        flow ∙ ap (λ (rss : List (List Result)). namedFlow wanted.block (namedRatio wanted.ratio rss) ++ replicate (n - nq) 0) results-are
+        flow ∙ ap (λ (rss : List (List Result)). named_flow wanted.block (named_ratio wanted.ratio rss) ++ replicate (n - nq) 0) results_are
 
-done-by : (t : Bool) → t ≡ false → (deck : List ℕ) (wanted : Wanted) (n m : ℕ) (listed : List ℕ) (w : Worked) (ordinates records : List ℕ)
+done_by : (t : Bool) → t ≡ false → (deck : List ℕ) (wanted : Wanted) (n m : ℕ) (listed : List ℕ) (w : Worked) (ordinates records : List ℕ)
     → EveryBy t deck wanted n m listed w ordinates records → EveryDone deck wanted n m listed w.nq w.blocks ordinates records
-done-by true e deck wanted n m listed w ordinates records d = absurd (true≢false e)
-done-by false e deck wanted n m listed w ordinates records d = d
+done_by true e deck wanted n m listed w ordinates records d = absurd (true≢false e)
+done_by false e deck wanted n m listed w ordinates records d = d
 
 -- what was lent for results holds the same where the deck is accepted and has room
 pub results-once : OnceAt walk-every.ps walk-every.r walk-every-says.Post
     (λ κs a x y e f. x.worked.refused ≡ false → y.worked.refused ≡ false → a.1.0.block ≤ x.worked.blocks → x.worked.nq ≤ length a.1.1.1.0.now
-    → a.1.0.ratio ≤ length (orWhole (ratiosIs x.ratios)) → recordBytes x.worked.blocks (length (orWhole (ratiosIs x.ratios))) ≤ length a.1.1.1.1.0.now
+    → a.1.0.ratio ≤ length (or_whole (ratios_is x.ratios)) → record_bytes x.worked.blocks (length (or_whole (ratios_is x.ratios))) ≤ length a.1.1.1.1.0.now
     → (e.1.1.1.0.now ≡ f.1.1.1.0.now) × (e.1.1.1.1.0.now ≡ f.1.1.1.1.0.now))
 results-once κs a x y e f p q s t known flows rated room =
-    let d = done-by x.worked.refused s _ _ _ _ _ x.worked _ _ p.every in
-    let g = done-by y.worked.refused t _ _ _ _ _ y.worked _ _ q.every in
+    let d = done_by x.worked.refused s _ _ _ _ _ x.worked _ _ p.every in
+    let g = done_by y.worked.refused t _ _ _ _ _ y.worked _ _ q.every in
     let same = rw (s, t) at (said-once κs a x y e f p q) in
     let nq : y.worked.nq ≡ x.worked.nq = cc in
     let blocks : y.worked.blocks ≡ x.worked.blocks = cc in
-    let listed : ratiosIs y.ratios ≡ ratiosIs x.ratios = cc in
+    let listed : ratios_is y.ratios ≡ ratios_is x.ratios = cc in
     let g' = rw (nq, blocks, listed) at g in (
-      flow-is _ _ _ _ _ _ _ known flows rated room _ _ d ∙ sym (flow-is _ _ _ _ _ _ _ known flows rated room _ _ g'),
-      records-are _ _ _ _ _ _ _ known flows rated room _ _ d ∙ sym (records-are _ _ _ _ _ _ _ known flows rated room _ _ g'),
+      flow_is _ _ _ _ _ _ _ known flows rated room _ _ d ∙ sym (flow_is _ _ _ _ _ _ _ known flows rated room _ _ g'),
+      records_are _ _ _ _ _ _ _ known flows rated room _ _ d ∙ sym (records_are _ _ _ _ _ _ _ known flows rated room _ _ g'),
     )

@@ -1,9 +1,9 @@
 // The rounds of a run: a walk over the deck under each ratio in turn, and of what they come to that which is met first.
 ghost use Rattle.std.specs.Prelude.{◌≡◌, ◌+◌, ◌≤◌, ◌<◌, length, replicate};
 ghost use Rattle.meaning.specs.Records.{table};
-ghost use Rattle.meaning.specs.Run.{workSize};
+ghost use Rattle.meaning.specs.Run.{work_size};
 ghost use Rattle.records.specs.Rows.{words_of};
-ghost use Rattle.passes.specs.Apart.{ratioCount};
+ghost use Rattle.passes.specs.Apart.{ratio_count};
 ghost use Rattle.rounds.specs.Rounds.{Rounds, Begun};
 ghost use Rattle.rounds.specs.Every.{EveryIs};
 
@@ -26,7 +26,7 @@ fn walk_first(
     records: &mut [u8],
     cards: &mut [u64],
 ) -> Walked
-    requires work_size_in_bounds { (workSize ≤ length work.old) × (words_of table ≤ length cards.old) }
+    requires work_size_in_bounds { (work_size ≤ length work.old) × (words_of table ≤ length cards.old) }
     requires ordinates_value { (ordinates.old ≡ replicate (length ordinates.old) 0) × (records.old ≡ replicate (length records.old) 0) }
     ensures { Begun deck.now wanted (length ordinates.old) (length records.old) result ordinates.new records.new }
 {
@@ -53,8 +53,8 @@ fn walk_next(
     records: &mut [u8],
     cards: &mut [u64],
 ) -> Worked
-    requires work_size_in_bounds { (workSize ≤ length work.old) × (words_of table ≤ length cards.old) }
-    requires place_bound { (place < ratioCount deck.now) × (place ≤ 9) }
+    requires work_size_in_bounds { (work_size ≤ length work.old) × (words_of table ≤ length cards.old) }
+    requires place_bound { (place < ratio_count deck.now) × (place ≤ 9) }
     requires rounds { Rounds deck.now wanted (length ordinates.old) (length records.old) place found ordinates.old records.old }
     ensures { Rounds deck.now wanted (length ordinates.old) (length records.old) (place + 1) result ordinates.new records.new }
 {
@@ -82,7 +82,7 @@ pub fn walk_every(
     ordinates: &mut [u64],
     records: &mut [u8],
 ) -> Walked
-    requires work_size_in_bounds { workSize ≤ length work.old }
+    requires work_size_in_bounds { work_size ≤ length work.old }
     requires ordinates_value { (ordinates.old ≡ replicate (length ordinates.old) 0) × (records.old ≡ replicate (length records.old) 0) }
     ensures { EveryIs deck.now wanted (length ordinates.old) (length records.old) result ordinates.new records.new }
 {

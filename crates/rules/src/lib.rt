@@ -3,9 +3,9 @@ mod words;
 
 ghost use Rattle.std.specs.Prelude.{◌≡◌, not};
 ghost use Rattle.meaning.specs.Words.{◌=?◌};
-ghost use Rattle.meaning.specs.Records.{isMalformed, isOutside, unitsOf, faultyField, outsideField, value_of};
-ghost use Rattle.amounts.specs.Values.{valueIs};
-ghost use Rattle.rules.specs.Rules.{ruleBy, FieldIs, WordIs, FewPlaces};
+ghost use Rattle.meaning.specs.Records.{is_malformed, is_outside, units_of, faulty_field, outside_field, value_of};
+ghost use Rattle.amounts.specs.Values.{value_is};
+ghost use Rattle.rules.specs.Rules.{rule_by, FieldIs, WordIs, FewPlaces};
 
 use amounts::Value;
 
@@ -28,7 +28,7 @@ pub enum Field {
 
 // A value, by the limits of its field.
 fn limit_value(v: Value, low: u64, high: u64) -> Field
-    ensures { FieldIs result (isMalformed (valueIs v)) (isOutside low high (valueIs v)) (unitsOf (valueIs v)) }
+    ensures { FieldIs result (is_malformed (value_is v)) (is_outside low high (value_is v)) (units_of (value_is v)) }
 {
     match v {
         Value::Malformed => Field::Faulty,
@@ -54,7 +54,7 @@ fn other_word(refusal: u64) -> Field
 
 // A word, by the limits of its field.
 fn limit_word(v: Value, refusal: u64, low: u64, high: u64) -> Field
-    ensures { WordIs result refusal low high (valueIs v) }
+    ensures { WordIs result refusal low high (value_is v) }
 {
     match limit_value(v, low, high) {
         Field::Faulty => other_word(refusal),
@@ -69,8 +69,8 @@ fn limit_word(v: Value, refusal: u64, low: u64, high: u64) -> Field
 
 // A field, by its rule.
 pub fn read_field(r: Rule, f: &[u8]) -> Field
-    requires { FewPlaces (ruleBy r) }
-    ensures { FieldIs result (faultyField (ruleBy r) f.now) (outsideField (ruleBy r) f.now) (value_of (ruleBy r) f.now) }
+    requires { FewPlaces (rule_by r) }
+    ensures { FieldIs result (faulty_field (rule_by r) f.now) (outside_field (rule_by r) f.now) (value_of (rule_by r) f.now) }
 {
     match r {
         Rule::Unnamed => {

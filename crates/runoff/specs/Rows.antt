@@ -1,9 +1,9 @@
 -- The order of the hand sheet: one interval's excess is spread over all the unit ordinates, then the next interval's. That the columns then add up to the runoff of
--- document 01, where each ordinate is summed over the unit ordinates, is `sheet-order`, the one law that ties the two orders.
---     spreadOver      an interval's shares, added to what is there
+-- document 01, where each ordinate is summed over the unit ordinates, is `sheet_order`, the one law that ties the two orders.
+--     spread_over      an interval's shares, added to what is there
 --     Rows            so many intervals are spread: each ordinate has what they bring to it
---     rows_none, rows-dry, rows_more    before the first one, past one without excess, and past one that is spread
---     sheet-order     a column's sum is the ordinate; rows_all: of all ordinates
+--     rows_none, rows_dry, rows_more    before the first one, past one without excess, and past one that is spread
+--     sheet_order     a column's sum is the ordinate; rows_all: of all ordinates
 use Rattle.std.specs.Prelude.{ℕ, ◌+◌, ◌-◌, ◌*◌, ◌≤◌, ◌<◌, ◌^◌, ◌≡◌, List, [], ◌++◌, take, drop, get_or, replicate}
 use Rattle.std.proofs.Common.{sym, ap, ◌∙◌, mul-le-mul, zero-mul, mul-zero, length-append, length-drop, ext_get_or, get_or-take, get_or-drop, length-take-le, get_or-append-add}
 use Rattle.std.proofs.Math.Logic.{⊎_elim}
@@ -13,25 +13,25 @@ use Rattle.std.proofs.Math.ListN.{length, get_or-eq_default, get_or-append}
 use Rattle.std.proofs.lemmas.List.{length-replicate}
 use Rattle.sequences.specs.Bounds.{AllUpTo}
 use Rattle.sequences.specs.Choices.{below_or_not}
-use Rattle.sequences.specs.Parts.{part, put, put-tail, part_to_end}
-use Rattle.sequences.specs.Sums.{sumTo-more, sumTo-past, sumTo-bound, sumTo-same, sumTo-back, length-listFrom, getD-list}
-use Rattle.sequences.specs.Zeros.{getD-alike}
+use Rattle.sequences.specs.Parts.{part, put, put_tail, part_to_end}
+use Rattle.sequences.specs.Sums.{sum_to_more, sum_to_past, sum_to_bound, sum_to_same, sum_to_back, length-list_from, get_or_list}
+use Rattle.sequences.specs.Zeros.{get_or_alike}
 use Rattle.meaning.specs.Words.{if◌then◌else◌}
-use Rattle.meaning.specs.Water.{list_from, sum_to, share, ordinate, runoffOf}
+use Rattle.meaning.specs.Water.{list_from, sum_to, share, ordinate, runoff_of}
 use Rattle.meaning.specs.Sheet.{Sheet, brings, column_sum}
-use Rattle.excess.specs.Storms.{mostExcess}
+use Rattle.excess.specs.Storms.{most_excess}
 
 -- the largest unit ordinate times the largest excess
-abbrev pub mostShare : ℕ
-mostShare = 9_999_999 * mostExcess
+abbrev pub most_share : ℕ
+most_share = 9_999_999 * most_excess
 
 -- an interval's shares, added to what stands from its own ordinate on
-abbrev pub spreadOver : (units : List ℕ) (excess : ℕ) → List ℕ → List ℕ
-spreadOver units excess q = list_from (λ (j : ℕ). get_or q j 0 + get_or units j 0 * excess) 0 (length q)
+abbrev pub spread_over : (units : List ℕ) (excess : ℕ) → List ℕ → List ℕ
+spread_over units excess q = list_from (λ (j : ℕ). get_or q j 0 + get_or units j 0 * excess) 0 (length q)
 
 -- what a sheet needs of itself here: its rain and its loss play no part
-abbrev pub sheetFor : (units excess : List ℕ) → (intervals : ℕ) → Sheet
-sheetFor units excess intervals = record { units = units; rains = []; losses = []; excesses = excess; intervals = intervals }
+abbrev pub sheet_for : (units excess : List ℕ) → (intervals : ℕ) → Sheet
+sheet_for units excess intervals = record { units = units; rains = []; losses = []; excesses = excess; intervals = intervals }
 
 module _ (s : Sheet) where
   abbrev units : List ℕ
@@ -41,9 +41,9 @@ module _ (s : Sheet) where
   excess = s.excesses
 
   -- nothing falls before the interval
-  brings-none : (i k : ℕ) → i < k → brings s i k ≡ 0
+  brings_none : (i k : ℕ) → i < k → brings s i k ≡ 0
   unfolding if◌then◌else◌
-  brings-none i k h = rw (lt-leb k i h)
+  brings_none i k h = rw (lt-leb k i h)
 
   -- and behind the last unit ordinate a share is none
   pub brings-share : (i k : ℕ) → k ≤ i → brings s i k ≡ get_or units (i - k) 0 * get_or excess k 0
@@ -56,30 +56,30 @@ module _ (s : Sheet) where
       rw (le-leb k i h, le-ltb (i - k) (length units) past, get_or-eq_default units 0 past) (sym (zero-mul (get_or excess k 0))))
       (below_or_not (i - k) (length units))
 
-  brings-up : AllUpTo 9_999_999 units → AllUpTo mostExcess excess → (i k : ℕ) → brings s i k ≤ mostShare
-  brings-up hu he i k =
+  brings_up : AllUpTo 9_999_999 units → AllUpTo most_excess excess → (i k : ℕ) → brings s i k ≤ most_share
+  brings_up hu he i k =
       ⊎_elim
-      (λ (before : i < k). omega (arith, brings-none i k before))
+      (λ (before : i < k). omega (arith, brings_none i k before))
       (λ (from : k ≤ i). rw (brings-share i k from) (mul-le-mul (hu (i - k)) (he k)))
       (below_or_not i k)
 
   -- THE LAW: the sum of a column is the ordinate, where there is no excess past the intervals of the sheet
-  pub sheet-order : ((k : ℕ) → s.intervals ≤ k → get_or excess k 0 ≡ 0) → (i : ℕ) → column_sum s i ≡ ordinate units excess i
-  sheet-order dry i =
+  pub sheet_order : ((k : ℕ) → s.intervals ≤ k → get_or excess k 0 ≡ 0) → (i : ℕ) → column_sum s i ≡ ordinate units excess i
+  sheet_order dry i =
       let turned : sum_to (brings s i) (i + 1) ≡ ordinate units excess i =
-      sumTo-same (brings s i) (λ (k : ℕ). share units excess i (i + 1 - (k + 1))) (i + 1)
+      sum_to_same (brings s i) (λ (k : ℕ). share units excess i (i + 1 - (k + 1))) (i + 1)
       (λ (k : ℕ) below.
       (let place : i + 1 - (k + 1) ≡ i - k = omega arith in
       let back : i - (i - k) ≡ k = omega arith in
       brings-share i k (omega arith) ∙ rw (place, back)))
-      ∙ sym (sumTo-back (share units excess i) (i + 1)) in
+      ∙ sym (sum_to_back (share units excess i) (i + 1)) in
       ⊎_elim
       (λ (few : s.intervals < i + 1).
-      sym (sumTo-past (brings s i) s.intervals (i + 1) (omega arith)
+      sym (sum_to_past (brings s i) s.intervals (i + 1) (omega arith)
       (λ (k : ℕ) from below. brings-share i k (omega arith) ∙ rw (dry k from) (mul-zero (get_or units (i - k) 0))))
       ∙ turned)
       (λ (many : i + 1 ≤ s.intervals).
-      sumTo-past (brings s i) (i + 1) s.intervals many (λ (k : ℕ) from below. brings-none i k (omega arith)) ∙ turned)
+      sum_to_past (brings s i) (i + 1) s.intervals many (λ (k : ℕ) from below. brings_none i k (omega arith)) ∙ turned)
       (below_or_not s.intervals (i + 1))
 
 -- SO MANY INTERVALS SPREAD. q has what the first k of them bring to each of its n ordinates.
@@ -92,41 +92,41 @@ module _ (s : Sheet) (n : ℕ) where
   rows_none k q none dry =
       record {
         long = ap length dry ∙ length-replicate n 0;
-        added = λ (i : ℕ) h. ap (λ (xs : List ℕ). get_or xs i 0) dry ∙ getD-alike n i 0 ∙ ap (sum_to (brings s i)) (sym none);
+        added = λ (i : ℕ) h. ap (λ (xs : List ℕ). get_or xs i 0) dry ∙ get_or_alike n i 0 ∙ ap (sum_to (brings s i)) (sym none);
       }
 
   -- room for one share more from any ordinate on, as long as no more than 300 intervals were spread
-  pub rows-room : AllUpTo 9_999_999 s.units → AllUpTo mostExcess s.excesses → (k from : ℕ) (q : List ℕ) → k ≤ 300 → Rows s n k q
-      → (j : ℕ) → j < length (part from (length q - from) q) → get_or (part from (length q - from) q) j 0 + mostShare < 2 ^ 64
-  rows-room hu he k from q few rows j h =
+  pub rows_room : AllUpTo 9_999_999 s.units → AllUpTo most_excess s.excesses → (k from : ℕ) (q : List ℕ) → k ≤ 300 → Rows s n k q
+      → (j : ℕ) → j < length (part from (length q - from) q) → get_or (part from (length q - from) q) j 0 + most_share < 2 ^ 64
+  rows_room hu he k from q few rows j h =
       let all = part_to_end from q in
       let within : from + j < n = omega (arith, rows.long, ap length all, length-drop from q, h) in
       let there : get_or (part from (length q - from) q) j 0 ≡ get_or q (from + j) 0 = ap (λ (xs : List ℕ). get_or xs j 0) all ∙ get_or-drop from q j 0 in
-      let most = sumTo-bound (brings s (from + j)) mostShare k (λ (m : ℕ). brings-up s hu he (from + j) m) in
+      let most = sum_to_bound (brings s (from + j)) most_share k (λ (m : ℕ). brings_up s hu he (from + j) m) in
       omega (arith, there, rows.added (from + j) within, most)
 
   -- an interval without excess brings nothing
-  pub rows-dry : (k : ℕ) (q : List ℕ) → get_or s.excesses k 0 ≡ 0 → Rows s n k q → Rows s n (k + 1) q
-  rows-dry k q none rows =
+  pub rows_dry : (k : ℕ) (q : List ℕ) → get_or s.excesses k 0 ≡ 0 → Rows s n k q → Rows s n (k + 1) q
+  rows_dry k q none rows =
       record {
         long = rows.long;
         added =
             λ (i : ℕ) h.
             (let nothing : brings s i k ≡ 0 =
             ⊎_elim
-            (λ (before : i < k). brings-none s i k before)
+            (λ (before : i < k). brings_none s i k before)
             (λ (from : k ≤ i). brings-share s i k from ∙ rw none (mul-zero (get_or s.units (i - k) 0)))
             (below_or_not i k) in
-            omega (arith, rows.added i h, sumTo-more (brings s i) k, nothing));
+            omega (arith, rows.added i h, sum_to_more (brings s i) k, nothing));
       }
 
   -- an interval that is spread, from its own ordinate on
-  added-row : (k d : ℕ) (q row : List ℕ) → k ≤ n → Rows s n k q → d ≡ get_or s.excesses k 0 → row ≡ spreadOver s.units d (drop k q) → Rows s n (k + 1) (take k q ++ row)
-  added-row k d q row within rows own spread =
+  added_row : (k d : ℕ) (q row : List ℕ) → k ≤ n → Rows s n k q → d ≡ get_or s.excesses k 0 → row ≡ spread_over s.units d (drop k q) → Rows s n (k + 1) (take k q ++ row)
+  added_row k d q row within rows own spread =
       let units = s.units in
       let front : length (take k q) ≡ k = length-take-le k q (omega (arith, rows.long)) in
       let left : length (drop k q) ≡ n - k = simp length-drop (omega (arith, rows.long)) in
-      let behind : length row ≡ n - k = ap length spread ∙ length-listFrom (λ (j : ℕ). get_or (drop k q) j 0 + get_or units j 0 * d) 0 (length (drop k q)) ∙ left in
+      let behind : length row ≡ n - k = ap length spread ∙ length-list_from (λ (j : ℕ). get_or (drop k q) j 0 + get_or units j 0 * d) 0 (length (drop k q)) ∙ left in
       record {
         long = simp length-append (omega (arith, front, behind));
         added =
@@ -135,7 +135,7 @@ module _ (s : Sheet) (n : ℕ) where
             (λ (before : i < k).
             get_or-append (take k q) row 0 i (omega (arith, front))
             ∙ get_or-take k q i 0 before
-            ∙ omega (arith, rows.added i below, sumTo-more (brings s i) k, brings-none s i k before))
+            ∙ omega (arith, rows.added i below, sum_to_more (brings s i) k, brings_none s i k before))
             (λ (from : k ≤ i).
             (let place : i ≡ length (take k q) + (i - k) = omega (arith, front) in
             let back : k + (i - k) ≡ i = omega arith in
@@ -143,23 +143,23 @@ module _ (s : Sheet) (n : ℕ) where
             ap (λ (p : ℕ). get_or (take k q ++ row) p 0) place
             ∙ get_or-append-add (take k q) row (i - k) 0
             ∙ ap (λ (xs : List ℕ). get_or xs (i - k) 0) spread
-            ∙ getD-list (λ (j : ℕ). get_or (drop k q) j 0 + get_or units j 0 * d) (length (drop k q)) (i - k) (omega (arith, left))
-            ∙ omega (arith, there, rows.added i below, sumTo-more (brings s i) k, brings-share s i k from, ap (λ (e : ℕ). get_or units (i - k) 0 * e) own)))
+            ∙ get_or_list (λ (j : ℕ). get_or (drop k q) j 0 + get_or units j 0 * d) (length (drop k q)) (i - k) (omega (arith, left))
+            ∙ omega (arith, there, rows.added i below, sum_to_more (brings s i) k, brings-share s i k from, ap (λ (e : ℕ). get_or units (i - k) 0 * e) own)))
             (below_or_not i k);
       }
 
   -- what is spread, and from where, is asked for by equations: a proof has to show that both are the interval's own
-  pub rows_more : (k from d : ℕ) (q row : List ℕ) → Rows s n k q → row ≡ spreadOver s.units d (part from (length q - from) q) → k ≤ n → from ≡ k → d ≡ get_or s.excesses k 0
+  pub rows_more : (k from d : ℕ) (q row : List ℕ) → Rows s n k q → row ≡ spread_over s.units d (part from (length q - from) q) → k ≤ n → from ≡ k → d ≡ get_or s.excesses k 0
       → Rows s n (k + 1) (put from (length q - from) q row)
   rows_more k from d q row rows made within there own =
-      rw (there, put-tail k q row) (added-row k d q row within rows own (rw (there, part_to_end k q) at made))
+      rw (there, put_tail k q row) (added_row k d q row within rows own (rw (there, part_to_end k q) at made))
 
   -- all that have excess
   pub rows_all : s.intervals ≤ n → (q : List ℕ) → Rows s n s.intervals q → ((k : ℕ) → s.intervals ≤ k → get_or s.excesses k 0 ≡ 0)
-      → q ≡ runoffOf s.units s.excesses n
+      → q ≡ runoff_of s.units s.excesses n
   rows_all few q rows dry =
-      ext_get_or 0 q (runoffOf s.units s.excesses n) (rows.long ∙ sym (length-listFrom (ordinate s.units s.excesses) 0 n))
+      ext_get_or 0 q (runoff_of s.units s.excesses n) (rows.long ∙ sym (length-list_from (ordinate s.units s.excesses) 0 n))
       (λ (i : ℕ) h.
       rows.added i (omega (arith, rows.long))
-      ∙ sheet-order s dry i
-      ∙ sym (getD-list (ordinate s.units s.excesses) n i (omega (arith, rows.long))))
+      ∙ sheet_order s dry i
+      ∙ sym (get_or_list (ordinate s.units s.excesses) n i (omega (arith, rows.long))))

@@ -1,8 +1,8 @@
 -- The fields of a line that a pass has still to note: those from its place on, and blank ones up to as many as the record names.
---     leftFields       these fields
---     span-turn        one field noted takes the first of them off
---     left-none        none are left
---     left-first       at the start they are the line's fields with blank ones behind
+--     left_fields       these fields
+--     span_turn        one field noted takes the first of them off
+--     left_none        none are left
+--     left_first       at the start they are the line's fields with blank ones behind
 use Rattle.std.specs.Prelude.{ℕ, suc, ◌+◌, ◌-◌, ◌*◌, ◌≤◌, ◌<◌, ◌≡◌, refl, Bool, true, false, List, [], ◌∷◌, ◌++◌, length, replicate}
 use Rattle.std.proofs.Common.{sym, ap, ◌∙◌, true≢false, ⊎_elim, append_assoc, arith, lt-ltb, le-ltb, ltb-true, ltb-false, length-append}
 use Rattle.std.proofs.lemmas.List.{length-replicate, replicate-append-replicate}
@@ -11,28 +11,28 @@ use Rattle.sequences.specs.Parts.{part}
 use Rattle.meaning.specs.Words.{◌<?◌, if◌then◌else◌}
 use Rattle.meaning.specs.Fields.{Form, Fixed, Free, fields_of}
 use Rattle.fields.specs.declared.Span.{Span}
-use Rattle.fields.specs.Spans.{Stands, firstPlace, spanAt, fieldsFrom}
-use Rattle.fields.specs.Fixed.{start-bounds, start-next}
-use Rattle.fields.specs.Turns.{turn, first-fields, fields-done}
+use Rattle.fields.specs.Spans.{Stands, first_place, span_at, fields_from}
+use Rattle.fields.specs.Fixed.{start_bounds, start-next}
+use Rattle.fields.specs.Turns.{turn, first_fields, fields_done}
 use Rattle.records.specs.Blanks.{fields_split}
 
-abbrev pub blanksFor : ℕ → ℕ → List (List ℕ) → List (List ℕ)
-blanksFor named i fs = fs ++ replicate (named - (i + length fs)) []
+abbrev pub blanks_for : ℕ → ℕ → List (List ℕ) → List (List ℕ)
+blanks_for named i fs = fs ++ replicate (named - (i + length fs)) []
 
-abbrev pub leftFields : Form → ℕ → ℕ → ℕ → List ℕ → List (List ℕ)
-leftFields form named i c l = blanksFor named i (fieldsFrom form i c l)
+abbrev pub left_fields : Form → ℕ → ℕ → ℕ → List ℕ → List (List ℕ)
+left_fields form named i c l = blanks_for named i (fields_from form i c l)
 
-abbrev pub leftBy : (length c i named : ℕ) → Bool
-leftBy length c i named = if c <? length then true else (i <? named)
+abbrev pub left_by : (length c i named : ℕ) → Bool
+left_by length c i named = if c <? length then true else (i <? named)
 
 -- a field past the line's end
-abbrev pub blankSpan : Form → ℕ → ℕ → Span
-blankSpan Free i c = record { from = 0; to = 0; next = c }
-blankSpan Fixed i c = record { from = 0; to = 0; next = 8 * i + 8 }
+abbrev pub blank_span : Form → ℕ → ℕ → Span
+blank_span Free i c = record { from = 0; to = 0; next = c }
+blank_span Fixed i c = record { from = 0; to = 0; next = 8 * i + 8 }
 
 -- field i, looked for at c
-abbrev pub nextSpan : Form → List ℕ → ℕ → ℕ → Span
-nextSpan form l i c = if c <? length l then spanAt form l i c else blankSpan form i c
+abbrev pub next_span : Form → List ℕ → ℕ → ℕ → Span
+next_span form l i c = if c <? length l then span_at form l i c else blank_span form i c
 
 -- One field noted: it is the first of those left, and the pass goes on behind it.
 pub record SpanTurn (form : Form) (l : List ℕ) (i c : ℕ) (r : Span) : Type 0 where
@@ -41,12 +41,12 @@ pub record SpanTurn (form : Form) (l : List ℕ) (i c : ℕ) (r : Span) : Type 0
   pub forth : c < length l → c < r.next
   pub past : length l ≤ c → length l ≤ r.next
   pub stands : Stands form l (i + 1) r.next
-  pub fields : (named : ℕ) → leftBy (length l) c i named ≡ true
-      → leftFields form named i c l ≡ part r.from (r.to - r.from) l ∷ leftFields form named (i + 1) r.next l
+  pub fields : (named : ℕ) → left_by (length l) c i named ≡ true
+      → left_fields form named i c l ≡ part r.from (r.to - r.from) l ∷ left_fields form named (i + 1) r.next l
 
 -- a field of the line
-field-turn : (form : Form) (l : List ℕ) (i c : ℕ) (r : Span) → c < length l → length l ≤ 80 → Stands form l i c → r ≡ spanAt form l i c → SpanTurn form l i c r
-field-turn form l i c r h short s e =
+field_turn : (form : Form) (l : List ℕ) (i c : ℕ) (r : Span) → c < length l → length l ≤ 80 → Stands form l i c → r ≡ span_at form l i c → SpanTurn form l i c r
+field_turn form l i c r h short s e =
     let t = turn form l i c r h short s e in
     record {
       begins = t.begins;
@@ -56,34 +56,34 @@ field-turn form l i c r h short s e =
       stands = t.stands;
       fields =
           λ named z.
-          (let n : named - (i + suc (length (fieldsFrom form (i + 1) r.next l))) ≡ named - (i + 1 + length (fieldsFrom form (i + 1) r.next l)) = omega arith in
+          (let n : named - (i + suc (length (fields_from form (i + 1) r.next l))) ≡ named - (i + 1 + length (fields_from form (i + 1) r.next l)) = omega arith in
           rw (t.fields, n));
     }
 
 -- a blank one behind it
-blank_stands : (form : Form) (l : List ℕ) (i c : ℕ) → length l ≤ c → Stands form l i c → Stands form l (i + 1) (blankSpan form i c).next
+blank_stands : (form : Form) (l : List ℕ) (i c : ℕ) → length l ≤ c → Stands form l i c → Stands form l (i + 1) (blank_span form i c).next
 blank_stands Free l i c h s = λ k. absurd (omega arith)
 blank_stands Fixed l i c h s = sym (start-next i)
 
-blank-past : (form : Form) (l : List ℕ) (i c : ℕ) → length l ≤ c → Stands form l i c → length l ≤ (blankSpan form i c).next
-blank-past Free l i c h s = h
-blank-past Fixed l i c h s = omega (arith, start-bounds i, s)
+blank_past : (form : Form) (l : List ℕ) (i c : ℕ) → length l ≤ c → Stands form l i c → length l ≤ (blank_span form i c).next
+blank_past Free l i c h s = h
+blank_past Fixed l i c h s = omega (arith, start_bounds i, s)
 
-blank-begins : (form : Form) (i c : ℕ) → ((blankSpan form i c).from ≡ 0) × ((blankSpan form i c).to ≡ 0)
+blank-begins : (form : Form) (i c : ℕ) → ((blank_span form i c).from ≡ 0) × ((blank_span form i c).to ≡ 0)
 blank-begins Free i c = (refl, refl)
 blank-begins Fixed i c = (refl, refl)
 
-not-inside : (n c i named : ℕ) → n ≤ c → leftBy n c i named ≡ true → i < named
+not_inside : (n c i named : ℕ) → n ≤ c → left_by n c i named ≡ true → i < named
 unfolding if◌then◌else◌
-not-inside n c i named h e = ltb-true i named (rw (le-ltb c n h) at e)
+not_inside n c i named h e = ltb-true i named (rw (le-ltb c n h) at e)
 
-blank_turn : (form : Form) (l : List ℕ) (i c : ℕ) (r : Span) → length l ≤ c → Stands form l i c → r ≡ blankSpan form i c → SpanTurn form l i c r
+blank_turn : (form : Form) (l : List ℕ) (i c : ℕ) (r : Span) → length l ≤ c → Stands form l i c → r ≡ blank_span form i c → SpanTurn form l i c r
 blank_turn form l i c r h s e =
-    let none = fields-done form l i c h s in
+    let none = fields_done form l i c h s in
     let b = blank-begins form i c in
-    let next : length l ≤ r.next = rw e (blank-past form l i c h s) in
+    let next : length l ≤ r.next = rw e (blank_past form l i c h s) in
     let stands : Stands form l (i + 1) r.next = rw e (blank_stands form l i c h s) in
-    let later = fields-done form l (i + 1) r.next next stands in
+    let later = fields_done form l (i + 1) r.next next stands in
     let from : r.from ≡ 0 = rw e b.0 in
     let to : r.to ≡ 0 = rw e b.1 in
     record {
@@ -94,28 +94,28 @@ blank_turn form l i c r h s e =
       stands = stands;
       fields =
           λ named z.
-          (let some = not-inside (length l) c i named h z in
+          (let some = not_inside (length l) c i named h z in
           let n : named - (i + 0) ≡ suc (named - (i + 1 + 0)) = omega arith in
           let zero-part : r.to - r.from ≡ 0 = omega arith in
           rw (none, later, n, zero-part));
     }
 
-pub span-turn : (form : Form) (l : List ℕ) (i c : ℕ) (r : Span) → length l ≤ 80 → Stands form l i c → r ≡ nextSpan form l i c → SpanTurn form l i c r
+pub span_turn : (form : Form) (l : List ℕ) (i c : ℕ) (r : Span) → length l ≤ 80 → Stands form l i c → r ≡ next_span form l i c → SpanTurn form l i c r
 unfolding if◌then◌else◌
-span-turn form l i c r short s e =
+span_turn form l i c r short s e =
     ⊎_elim
-    (λ (h : c < length l). field-turn form l i c r h short s (rw (lt-ltb c (length l) h) at e))
+    (λ (h : c < length l). field_turn form l i c r h short s (rw (lt-ltb c (length l) h) at e))
     (λ (h : length l ≤ c). blank_turn form l i c r h s (rw (le-ltb c (length l) h) at e))
     (below_or_not c (length l))
 
 -- none are left
-pub left-none : (form : Form) (named : ℕ) (l : List ℕ) (i c : ℕ) → Stands form l i c → leftBy (length l) c i named ≡ false → leftFields form named i c l ≡ []
+pub left_none : (form : Form) (named : ℕ) (l : List ℕ) (i c : ℕ) → Stands form l i c → left_by (length l) c i named ≡ false → left_fields form named i c l ≡ []
 unfolding if◌then◌else◌
-left-none form named l i c s e =
+left_none form named l i c s e =
     ⊎_elim
     (λ (h : c < length l). absurd (true≢false (rw (lt-ltb c (length l) h) at e)))
     (λ (h : length l ≤ c).
-    let none = fields-done form l i c h s in
+    let none = fields_done form l i c h s in
     let few : named ≤ i = omega (arith, ltb-false i named (rw (le-ltb c (length l) h) at e)) in
     let n : named - (i + 0) ≡ 0 = omega arith in
     rw (none, n))
@@ -124,14 +124,14 @@ left-none form named l i c s e =
 -- at the start they are the line's fields, with blank ones behind, and as many as are named at least
 pub record Starts (form : Form) (named : ℕ) (l : List ℕ) : Type 0 where
   pub blanks : ℕ
-  pub fields : leftFields form named 0 (firstPlace form l) l ≡ fields_of form l ++ replicate blanks []
+  pub fields : left_fields form named 0 (first_place form l) l ≡ fields_of form l ++ replicate blanks []
   pub enough : named ≤ length (fields_of form l) + blanks
 
-pub left-first : (form : Form) (named : ℕ) (l : List ℕ) → Starts form named l
-left-first form named l =
-    let raw = fieldsFrom form 0 (firstPlace form l) l in
+pub left_first : (form : Form) (named : ℕ) (l : List ℕ) → Starts form named l
+left_first form named l =
+    let raw = fields_from form 0 (first_place form l) l in
     let h = fields_split raw in
-    let e = first-fields form l in
+    let e = first_fields form l in
     let m = named - (0 + length raw) in
     let split : raw ≡ fields_of form l ++ replicate h.0 [] = rw e at h.1 in
     let long : length raw ≡ length (fields_of form l) + h.0 = ap length split ∙ length-append (fields_of form l) (replicate h.0 []) ∙ rw (length-replicate {A = List ℕ} h.0 []) in
@@ -145,21 +145,21 @@ left-first form named l =
     }
 
 -- places stay small
-pub left-few : (n c i named : ℕ) → n ≤ 80 → i ≤ c + 10 → named ≤ 10 → leftBy n c i named ≡ true → i ≤ 90
-left-few n c i named short near few e =
-    ⊎_elim (λ (h : c < n). omega arith) (λ (h : n ≤ c). omega (arith, not-inside n c i named h e)) (below_or_not c n)
+pub left_few : (n c i named : ℕ) → n ≤ 80 → i ≤ c + 10 → named ≤ 10 → left_by n c i named ≡ true → i ≤ 90
+left_few n c i named short near few e =
+    ⊎_elim (λ (h : c < n). omega arith) (λ (h : n ≤ c). omega (arith, not_inside n c i named h e)) (below_or_not c n)
 
 -- and the way to the line's end shorter
-pub left_less : (n c i named next : ℕ) → leftBy n c i named ≡ true → (c < n → c < next) → (n ≤ c → n ≤ next) → (n - next) + (named - (i + 1)) < (n - c) + (named - i)
+pub left_less : (n c i named next : ℕ) → left_by n c i named ≡ true → (c < n → c < next) → (n ≤ c → n ≤ next) → (n - next) + (named - (i + 1)) < (n - c) + (named - i)
 left_less n c i named next e forth past =
     ⊎_elim
     (λ (h : c < n). omega (arith, forth h))
-    (λ (h : n ≤ c). omega (arith, past h, not-inside n c i named h e))
+    (λ (h : n ≤ c). omega (arith, past h, not_inside n c i named h e))
     (below_or_not c n)
 
-pub left_near : (n c i named next : ℕ) → i ≤ c + 10 → named ≤ 10 → leftBy n c i named ≡ true → (c < n → c < next) → i + 1 ≤ next + 10
+pub left_near : (n c i named next : ℕ) → i ≤ c + 10 → named ≤ 10 → left_by n c i named ≡ true → (c < n → c < next) → i + 1 ≤ next + 10
 left_near n c i named next near few e forth =
     ⊎_elim
     (λ (h : c < n). omega (arith, forth h))
-    (λ (h : n ≤ c). omega (arith, not-inside n c i named h e))
+    (λ (h : n ≤ c). omega (arith, not_inside n c i named h e))
     (below_or_not c n)

@@ -2,23 +2,23 @@
 use Rattle.std.specs.Prelude.{ℕ, suc, ◌+◌, Bool, ◌||◌, List, [], ◌∷◌, ◌≡◌, refl, length}
 use Rattle.std.proofs.Common.{arith, ne_eqb}
 use Rattle.meaning.specs.Words.{◌=?◌, if◌then◌else◌, empty}
-use Rattle.meaning.specs.Records.{Rule, ruleAt, outsideField, value_of}
+use Rattle.meaning.specs.Records.{Rule, rule_at, outside_field, value_of}
 use Rattle.scanning.specs.Pass.{Scanned, kept, noted}
 use Rattle.scanning.specs.declared.Scan.{Scan}
 
-abbrev pub scannedOf : List ℕ → Scan → Scanned
-scannedOf values s = record { values = values; count = s.count; outside = s.outside }
+abbrev pub scanned_of : List ℕ → Scan → Scanned
+scanned_of values s = record { values = values; count = s.count; outside = s.outside }
 
 -- a field is blank where it has no bytes
-abbrev pub blankBy : ℕ → Bool
-blankBy n = n =? 0
+abbrev pub blank_by : ℕ → Bool
+blank_by n = n =? 0
 
-pub blank-length : (f : List ℕ) → blankBy (length f) ≡ empty f
+pub blank-length : (f : List ℕ) → blank_by (length f) ≡ empty f
 blank-length [] = refl
 blank-length (b ∷ f) = ne_eqb (suc (length f)) 0 (λ e. absurd (omega arith))
 
 -- what the code keeps of a field is what the definition notes
-pub noted-by : (rules : List Rule) (k : ℕ) (f values : List ℕ) (s : Scan) (values' : List ℕ) (s' : Scan) (v : ℕ) (out : Bool)
-    → values' ≡ kept k v values → s'.count ≡ (if blankBy (length f) then s.count else k + 1) → s'.outside ≡ (s.outside || out)
-    → out ≡ outsideField (ruleAt rules k) f → v ≡ value_of (ruleAt rules k) f → scannedOf values' s' ≡ noted rules k f (scannedOf values s)
-noted-by rules k f values s values' s' v out e₁ e₂ e₃ e₄ e₅ = rw (e₁, e₂, e₃, e₄, e₅, blank-length f)
+pub noted_by : (rules : List Rule) (k : ℕ) (f values : List ℕ) (s : Scan) (values' : List ℕ) (s' : Scan) (v : ℕ) (out : Bool)
+    → values' ≡ kept k v values → s'.count ≡ (if blank_by (length f) then s.count else k + 1) → s'.outside ≡ (s.outside || out)
+    → out ≡ outside_field (rule_at rules k) f → v ≡ value_of (rule_at rules k) f → scanned_of values' s' ≡ noted rules k f (scanned_of values s)
+noted_by rules k f values s values' s' v out e₁ e₂ e₃ e₄ e₅ = rw (e₁, e₂, e₃, e₄, e₅, blank-length f)

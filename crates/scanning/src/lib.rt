@@ -1,12 +1,12 @@
 // One pass over a line's fields: each is found, held against its record's rule, and its value kept, so that refusals 6 to 8 and the block's values need no second look.
 ghost use Rattle.std.specs.Prelude.{◌≡◌, true, false, ◌||◌, ◌+◌, ◌≤◌, length};
 ghost use Rattle.meaning.specs.Words.{if◌then◌else◌};
-ghost use Rattle.meaning.specs.Records.{ruleAt, faultyField};
+ghost use Rattle.meaning.specs.Records.{rule_at, faulty_field};
 ghost use Rattle.fields.specs.Spans.{form_of, Stands};
-ghost use Rattle.records.specs.Rows.{rulesBy};
+ghost use Rattle.records.specs.Rows.{rules_by};
 ghost use Rattle.scanning.specs.Pass.{kept, noted};
-ghost use Rattle.scanning.specs.Scans.{scannedOf, blankBy};
-ghost use Rattle.scanning.specs.FieldsLeft.{leftBy, blankSpan, nextSpan};
+ghost use Rattle.scanning.specs.Scans.{scanned_of, blank_by};
+ghost use Rattle.scanning.specs.FieldsLeft.{left_by, blank_span, next_span};
 
 use fields::Span;
 use rules::Field;
@@ -47,7 +47,7 @@ fn either(a: bool, b: bool) -> bool
 // The place of the last field that is not blank, and the flag, behind field `k`.
 fn note(scan: Scan, k: usize, length: usize, outside: bool) -> Scan
     requires { k ≤ 100 }
-    ensures { (result.count ≡ (if blankBy length then scan.count else k + 1)) × (result.outside ≡ (scan.outside || outside)) }
+    ensures { (result.count ≡ (if blank_by length then scan.count else k + 1)) × (result.outside ≡ (scan.outside || outside)) }
 {
     let flag = either(scan.outside, outside);
     let before = scan.count;
@@ -66,9 +66,9 @@ fn note(scan: Scan, k: usize, length: usize, outside: bool) -> Scan
 // Field `k` of a line, the bytes `f`, noted: its value is kept, unless it is a fault.
 pub fn note_field(values: &mut [u64], scan: Scan, item: usize, k: usize, f: &[u8]) -> Noted
     requires { (k ≤ 100) × (length values.old ≡ 10) }
-    ensures faulty_value { result.faulty ≡ faultyField (ruleAt (rulesBy item) k) f.now }
-    ensures scan_after { result.faulty ≡ false → scannedOf values.new result.scan ≡ noted (rulesBy item) k f.now (scannedOf values.old scan) }
-    ensures scan_after_2 { result.faulty ≡ true → scannedOf values.new result.scan ≡ scannedOf values.old scan }
+    ensures faulty_value { result.faulty ≡ faulty_field (rule_at (rules_by item) k) f.now }
+    ensures scan_after { result.faulty ≡ false → scanned_of values.new result.scan ≡ noted (rules_by item) k f.now (scanned_of values.old scan) }
+    ensures scan_after_2 { result.faulty ≡ true → scanned_of values.new result.scan ≡ scanned_of values.old scan }
 {
     match records::field_at(item, k, f) {
         Field::Faulty => Noted {
@@ -87,7 +87,7 @@ pub fn note_field(values: &mut [u64], scan: Scan, item: usize, k: usize, f: &[u8
 
 // Whether a field is left: one of the line, or one that the record names.
 pub fn is_left(length: usize, c: usize, i: usize, named: usize) -> bool
-    ensures { result ≡ leftBy length c i named }
+    ensures { result ≡ left_by length c i named }
 {
     if c < length {
         return true;
@@ -98,7 +98,7 @@ pub fn is_left(length: usize, c: usize, i: usize, named: usize) -> bool
 // Field `i` of a line past its end is blank, and the next one is looked for behind it.
 fn blank_span(free: bool, i: usize, c: usize) -> Span
     requires { i ≤ 100 }
-    ensures { result ≡ blankSpan (form_of free) i c }
+    ensures { result ≡ blank_span (form_of free) i c }
 {
     if free {
         return Span {
@@ -117,7 +117,7 @@ fn blank_span(free: bool, i: usize, c: usize) -> Span
 // Field `i` of a line, looked for at `c`; past the line's end it is blank.
 pub fn next_span(free: bool, l: &[u8], i: usize, c: usize) -> Span
     requires { (i ≤ 100) × (length l.now ≤ 80) × Stands (form_of free) l.now i c }
-    ensures { result ≡ nextSpan (form_of free) l.now i c }
+    ensures { result ≡ next_span (form_of free) l.now i c }
 {
     if c < l.len() {
         return fields::span_at(free, l, i, c);

@@ -12,11 +12,11 @@ pub record Rewritten (f : ℕ → ℕ) (q₀ q : List ℕ) (j : ℕ) : Type 0 wh
   pub same : (i : ℕ) → j ≤ i → get_or q i 0 ≡ get_or q₀ i 0
 
 module _ (f : ℕ → ℕ) (q₀ : List ℕ) where
-  pub rewritten-none : (j : ℕ) → j ≡ 0 → Rewritten f q₀ q₀ j
-  rewritten-none j none = record { long = refl; done = λ (i : ℕ) h. absurd (omega arith); same = λ (i : ℕ) h. refl }
+  pub rewritten_none : (j : ℕ) → j ≡ 0 → Rewritten f q₀ q₀ j
+  rewritten_none j none = record { long = refl; done = λ (i : ℕ) h. absurd (omega arith); same = λ (i : ℕ) h. refl }
 
-  pub rewritten-more : (q : List ℕ) (j v : ℕ) → Rewritten f q₀ q j → j < length q₀ → v ≡ f j → Rewritten f q₀ (set q j v) (j + 1)
-  rewritten-more q j v r below is =
+  pub rewritten_more : (q : List ℕ) (j v : ℕ) → Rewritten f q₀ q j → j < length q₀ → v ≡ f j → Rewritten f q₀ (set q j v) (j + 1)
+  rewritten_more q j v r below is =
       record {
         long = simp length-set r.long;
         done =
@@ -29,9 +29,9 @@ module _ (f : ℕ → ℕ) (q₀ : List ℕ) where
       }
 
   -- what it leaves, if the rest was so before
-  pub rewritten-all : (q xs : List ℕ) (j : ℕ) → Rewritten f q₀ q j → length xs ≡ length q₀ → ((i : ℕ) → i < j → i < length q₀ → f i ≡ get_or xs i 0)
+  pub rewritten_all : (q xs : List ℕ) (j : ℕ) → Rewritten f q₀ q j → length xs ≡ length q₀ → ((i : ℕ) → i < j → i < length q₀ → f i ≡ get_or xs i 0)
       → ((i : ℕ) → j ≤ i → i < length q₀ → get_or q₀ i 0 ≡ get_or xs i 0) → q ≡ xs
-  rewritten-all q xs j r long front rest =
+  rewritten_all q xs j r long front rest =
       ext_get_or 0 q xs (r.long ∙ sym long)
       (λ (i : ℕ) h.
       ⊎_elim

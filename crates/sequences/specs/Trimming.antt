@@ -1,9 +1,9 @@
--- What is left of a list without the last ones that pass a test (`trimEnd`): a front of the list.
---     trim-pass, trim-stop    by its last element: one that passes the test is dropped, any other keeps all before it
+-- What is left of a list without the last ones that pass a test (`trim_end`): a front of the list.
+--     trim_pass, trim_stop    by its last element: one that passes the test is dropped, any other keeps all before it
 --     take-pass, take-stop    the same of the first n elements; take_none: of none. A loop that goes from the end to the front keeps what is left, and
 --                             ends (take_ends) with how many that are
---     trim-front, trim-within what is left is a front, and no longer
---     trim-split              behind it stand the ones that were dropped
+--     trim_front, trim_within what is left is a front, and no longer
+--     trim_split              behind it stand the ones that were dropped
 use Prim.Native.Nat.{ℕ, suc, ◌-◌, ◌≤◌, ◌<◌}
 use Rattle.std.specs.Prelude.{◌≡◌, Bool, ◌&&◌, get_or, replicate}
 use Rattle.std.proofs.Math.Path.{refl, ap}
@@ -13,39 +13,39 @@ use mathlib.Core.List.{List, [], ◌∷◌, ◌++◌}
 use native.Mathlib.Omega.{arith}
 use Rattle.std.proofs.Math.ListN.{length, take}
 use Rattle.meaning.specs.Words.{if◌then◌else◌, empty}
-use Rattle.meaning.specs.Fields.{trimEnd}
+use Rattle.meaning.specs.Fields.{trim_end}
 
 module _ {A : Type 0} (test : A → Bool) where
-  pub trim-pass : (xs : List A) (x : A) → test x ≡ true → trimEnd test (xs ++ (x ∷ [])) ≡ trimEnd test xs
-  unfolding trimEnd if◌then◌else◌
-  trim-pass [] x h = rw h
-  trim-pass (y ∷ ys) x h = rw (trim-pass ys x h)
+  pub trim_pass : (xs : List A) (x : A) → test x ≡ true → trim_end test (xs ++ (x ∷ [])) ≡ trim_end test xs
+  unfolding trim_end if◌then◌else◌
+  trim_pass [] x h = rw h
+  trim_pass (y ∷ ys) x h = rw (trim_pass ys x h)
 
-  not-empty : (xs : List A) (x : A) → empty (xs ++ (x ∷ [])) ≡ false
-  not-empty [] x = refl
-  not-empty (y ∷ ys) x = refl
+  not_empty : (xs : List A) (x : A) → empty (xs ++ (x ∷ [])) ≡ false
+  not_empty [] x = refl
+  not_empty (y ∷ ys) x = refl
 
-  pub trim-stop : (xs : List A) (x : A) → test x ≡ false → trimEnd test (xs ++ (x ∷ [])) ≡ xs ++ (x ∷ [])
-  unfolding trimEnd if◌then◌else◌
-  trim-stop [] x h = rw h
-  trim-stop (y ∷ ys) x h = rw (trim-stop ys x h, not-empty ys x, and-false (test y))
+  pub trim_stop : (xs : List A) (x : A) → test x ≡ false → trim_end test (xs ++ (x ∷ [])) ≡ xs ++ (x ∷ [])
+  unfolding trim_end if◌then◌else◌
+  trim_stop [] x h = rw h
+  trim_stop (y ∷ ys) x h = rw (trim_stop ys x h, not_empty ys x, and-false (test y))
 
-  pub trim-front : (xs : List A) → take (length (trimEnd test xs)) xs ≡ trimEnd test xs
-  unfolding trimEnd if◌then◌else◌
-  trim-front [] = refl
-  trim-front (x ∷ xs) = go (test x && empty (trimEnd test xs)) (trim-front xs)
+  pub trim_front : (xs : List A) → take (length (trim_end test xs)) xs ≡ trim_end test xs
+  unfolding trim_end if◌then◌else◌
+  trim_front [] = refl
+  trim_front (x ∷ xs) = go (test x && empty (trim_end test xs)) (trim_front xs)
     where
-      go : (t : Bool) → take (length (trimEnd test xs)) xs ≡ trimEnd test xs
-          → take (length (if t then [] else x ∷ trimEnd test xs)) (x ∷ xs) ≡ (if t then [] else x ∷ trimEnd test xs)
+      go : (t : Bool) → take (length (trim_end test xs)) xs ≡ trim_end test xs
+          → take (length (if t then [] else x ∷ trim_end test xs)) (x ∷ xs) ≡ (if t then [] else x ∷ trim_end test xs)
       go true ih = refl
       go false ih = ap (λ (l : List A). x ∷ l) ih
 
-  pub trim-within : (xs : List A) → length (trimEnd test xs) ≤ length xs
-  unfolding trimEnd if◌then◌else◌
-  trim-within [] = omega arith
-  trim-within (x ∷ xs) = go (test x && empty (trimEnd test xs)) (trim-within xs)
+  pub trim_within : (xs : List A) → length (trim_end test xs) ≤ length xs
+  unfolding trim_end if◌then◌else◌
+  trim_within [] = omega arith
+  trim_within (x ∷ xs) = go (test x && empty (trim_end test xs)) (trim_within xs)
     where
-      go : (t : Bool) → length (trimEnd test xs) ≤ length xs → length (if t then [] else x ∷ trimEnd test xs) ≤ suc (length xs)
+      go : (t : Bool) → length (trim_end test xs) ≤ length xs → length (if t then [] else x ∷ trim_end test xs) ≤ suc (length xs)
       go true ih = omega arith
       go false ih = omega arith
 
@@ -58,18 +58,18 @@ module _ {A : Type 0} (test : A → Bool) where
     step x xs (y ∷ ts) n true h k = (n, ap (λ (l : List A). x ∷ l) k)
     step x xs ts n false h k = (n, ap (λ (l : List A). x ∷ l) k)
 
-    pub trim-split : (xs : List A) → (n : ℕ) × (xs ≡ trimEnd test xs ++ replicate n e)
-    unfolding trimEnd
-    trim-split [] = (0, refl)
-    trim-split (x ∷ xs) = let h = trim-split xs in step x xs (trimEnd test xs) h.0 (test x) refl h.1
+    pub trim_split : (xs : List A) → (n : ℕ) × (xs ≡ trim_end test xs ++ replicate n e)
+    unfolding trim_end
+    trim_split [] = (0, refl)
+    trim_split (x ∷ xs) = let h = trim_split xs in step x xs (trim_end test xs) h.0 (test x) refl h.1
 
 module _ (test : ℕ → Bool) (s : List ℕ) (n : ℕ) where
-  pub take_none : n ≡ 0 → trimEnd test (take n s) ≡ take n s
-  unfolding trimEnd
+  pub take_none : n ≡ 0 → trim_end test (take n s) ≡ take n s
+  unfolding trim_end
   take_none e = rw e
 
   -- where nothing is left to drop, so many are left
-  pub take_ends : n ≤ length s → {ts : List ℕ} → trimEnd test (take n s) ≡ take n s → trimEnd test (take n s) ≡ ts → n ≡ length ts
+  pub take_ends : n ≤ length s → {ts : List ℕ} → trim_end test (take n s) ≡ take n s → trim_end test (take n s) ≡ ts → n ≡ length ts
   take_ends h {ts} kept same = omega (arith, ap length (sym same ∙ kept), length-take-le n s h)
 
   module _ (some : 0 < n) (within : n ≤ length s) where
@@ -78,8 +78,8 @@ module _ (test : ℕ → Bool) (s : List ℕ) (n : ℕ) where
         let e : n ≡ suc (n - 1) = omega arith in
         ap (λ (k : ℕ). take k s) e ∙ take-suc s (n - 1) 0 (omega arith)
 
-    pub take-pass : test (get_or s (n - 1) 0) ≡ true → trimEnd test (take n s) ≡ trimEnd test (take (n - 1) s)
-    take-pass h = ap (trimEnd test) last_of ∙ trim-pass test (take (n - 1) s) (get_or s (n - 1) 0) h
+    pub take-pass : test (get_or s (n - 1) 0) ≡ true → trim_end test (take n s) ≡ trim_end test (take (n - 1) s)
+    take-pass h = ap (trim_end test) last_of ∙ trim_pass test (take (n - 1) s) (get_or s (n - 1) 0) h
 
-    pub take-stop : test (get_or s (n - 1) 0) ≡ false → trimEnd test (take n s) ≡ take n s
-    take-stop h = ap (trimEnd test) last_of ∙ trim-stop test (take (n - 1) s) (get_or s (n - 1) 0) h ∙ sym last_of
+    pub take-stop : test (get_or s (n - 1) 0) ≡ false → trim_end test (take n s) ≡ take n s
+    take-stop h = ap (trim_end test) last_of ∙ trim_stop test (take (n - 1) s) (get_or s (n - 1) 0) h ∙ sym last_of

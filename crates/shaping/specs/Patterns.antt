@@ -3,13 +3,13 @@ use Rattle.std.specs.Prelude.{◌<◌, ◌≡◌, false}
 use Rattle.std.proofs.Common.{arith, lt-ltb, le-ltb}
 use Rattle.meaning.specs.Words.{◌=?◌}
 use Rattle.meaning.specs.Water.{sum_of}
-use Rattle.meaning.specs.Blocks.{Time, Block, stormTotal, listedRain, patternless}
+use Rattle.meaning.specs.Blocks.{Time, Block, storm_total, listed_rain, patternless}
 
 module _ (τ : Time) (b : Block) where
-  pub no-total : stormTotal b ≡ 0 → patternless τ b ≡ false
+  pub no_total : storm_total b ≡ 0 → patternless τ b ≡ false
   unfolding patternless
-  no-total none = rw (le-ltb 0 (stormTotal b) (omega arith))
+  no_total none = rw (le-ltb 0 (storm_total b) (omega arith))
 
-  pub some-total : 0 < stormTotal b → patternless τ b ≡ (sum_of (listedRain τ b) =? 0)
+  pub some_total : 0 < storm_total b → patternless τ b ≡ (sum_of (listed_rain τ b) =? 0)
   unfolding patternless
-  some-total some = rw (lt-ltb 0 (stormTotal b) some)
+  some_total some = rw (lt-ltb 0 (storm_total b) some)

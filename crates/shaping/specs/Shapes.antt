@@ -1,70 +1,70 @@
 -- Refusals 9, 18, 10, 11 and 12 or 19 of a block that closes.
---     refusalBy       by the tests and the numbers that they look at
---     ShapeIs         the shape of a block, with shape-found, shape-refused and shape-sound: how it comes about
+--     refusal_by       by the tests and the numbers that they look at
+--     ShapeIs         the shape of a block, with shape_found, shape_refused and shape_sound: how it comes about
 --     Shaped          a block of a kind that none of them refuses, with what that says of how many are held, of a reach and of a pond
 use Rattle.std.specs.Prelude.{ℕ, zero, suc, ◌+◌, ◌-◌, ◌≤◌, ◌<◌, ◌≡◌, refl, Bool, length}
 use Rattle.std.proofs.Common.{sym, ap, ◌∙◌, arith, ltb-false, leb-false}
-use Rattle.sequences.specs.Refusals.{neither-met, not-met}
+use Rattle.sequences.specs.Refusals.{neither_met, not_met}
 use Rattle.meaning.specs.Words.{◌=?◌, ◌≤?◌, ◌<?◌, if◌then◌else◌, met, first}
-use Rattle.meaning.specs.Water.{coefA, coefB, coefC, unroutable}
-use Rattle.meaning.specs.Pool.{tableBreaks}
+use Rattle.meaning.specs.Water.{coef_a, coef_b, coef_c, unroutable}
+use Rattle.meaning.specs.Pool.{table_breaks}
 use Rattle.meaning.specs.Records.{RM, SV, SQ, table}
 use Rattle.meaning.specs.Blocks as blocks
-use Rattle.meaning.specs.Blocks.{Time, Block, NoKind, Reach, Pond, kindNumber, kind_of, takesBy, takes, patternless, brokenBy, broken, reachSteps, reachK, reachX, pondVolumes, pondOutflows}
-use Rattle.meaning.specs.Run.{shapeRefusal, depthAfter}
+use Rattle.meaning.specs.Blocks.{Time, Block, NoKind, Reach, Pond, kind_number, kind_of, takes_by, takes, patternless, broken_by, broken, reach_steps, reach_k, reach_x, pond_volumes, pond_outflows}
+use Rattle.meaning.specs.Run.{shape_refusal, depth_after}
 use Rattle.limits.specs.Within.{TimeWithin}
-use Rattle.kinds.specs.Kinds.{kindMeant, kind-must}
+use Rattle.kinds.specs.Kinds.{kind_meant, kind_must}
 use Rattle.kinds.specs.declared.Kind.{Kind}
 use Rattle.routing.specs.Soundness as routing
 use Rattle.pond.specs.Tables.{PondTable}
-use Rattle.shaping.specs.Limits.{CardsWithin, reach-small}
+use Rattle.shaping.specs.Limits.{CardsWithin, reach_small}
 use Rattle.shaping.specs.declared.Shape.{Shape}
 
-abbrev pub refusalBy : (isKindless isPatternless : Bool) (taken held breach : ℕ) → ℕ
-refusalBy isKindless isPatternless taken held breach =
-    first (met isKindless 9) (first (met isPatternless 18) (first (met (held <? taken) 10) (first (met (20 ≤? (held - taken)) 11) breach)))
+abbrev pub refusal_by : (is_kindless is_patternless : Bool) (taken held breach : ℕ) → ℕ
+refusal_by is_kindless is_patternless taken held breach =
+    first (met is_kindless 9) (first (met is_patternless 18) (first (met (held <? taken) 10) (first (met (20 ≤? (held - taken)) 11) breach)))
 
 -- by the kind alone
-pub takes-by : (b : Block) {k : blocks.Kind} → kind_of b ≡ k → takes b ≡ takesBy k b
+pub takes-by : (b : Block) {k : blocks.Kind} → kind_of b ≡ k → takes b ≡ takes_by k b
 unfolding takes
 takes-by b e = rw e
 
-pub broken-by : (τ : Time) (b : Block) {k : blocks.Kind} → kind_of b ≡ k → broken τ b ≡ brokenBy k τ b
+pub broken-by : (τ : Time) (b : Block) {k : blocks.Kind} → kind_of b ≡ k → broken τ b ≡ broken_by k τ b
 unfolding broken
 broken-by τ b e = rw e
 
-shape-by : (τ : Time) (b : Block) (held : ℕ) {k : blocks.Kind} → kind_of b ≡ k
-    → shapeRefusal τ b held ≡ refusalBy (kindNumber k =? 0) (patternless τ b) (takesBy k b) held (brokenBy k τ b)
-unfolding shapeRefusal
-shape-by τ b held e = rw (takes-by b e, broken-by τ b e, e)
+shape_by : (τ : Time) (b : Block) (held : ℕ) {k : blocks.Kind} → kind_of b ≡ k
+    → shape_refusal τ b held ≡ refusal_by (kind_number k =? 0) (patternless τ b) (takes_by k b) held (broken_by k τ b)
+unfolding shape_refusal
+shape_by τ b held e = rw (takes-by b e, broken-by τ b e, e)
 
 -- THE SHAPE. A refusal leaves as many held as there were.
-abbrev pub afterShape : (refusal : ℕ) → Block → ℕ → ℕ
-afterShape zero b held = depthAfter b held
-afterShape (suc n) b held = held
+abbrev pub after_shape : (refusal : ℕ) → Block → ℕ → ℕ
+after_shape zero b held = depth_after b held
+after_shape (suc n) b held = held
 
 pub record ShapeIs (τ : Time) (b : Block) (held : ℕ) (r : Shape) : Type 0 where
-  pub number : r.refusal ≡ shapeRefusal τ b held
-  pub kind : kindMeant r.kind ≡ kind_of b
-  pub after : r.after ≡ afterShape r.refusal b held
+  pub number : r.refusal ≡ shape_refusal τ b held
+  pub kind : kind_meant r.kind ≡ kind_of b
+  pub after : r.after ≡ after_shape r.refusal b held
 
-kept-after : (n : ℕ) (b : Block) (held : ℕ) → (n ≡ 0 → ⊥) → held ≡ afterShape n b held
+kept-after : (n : ℕ) (b : Block) (held : ℕ) → (n ≡ 0 → ⊥) → held ≡ after_shape n b held
 kept-after zero b held some = absurd (some refl)
 kept-after (suc n) b held some = refl
 
-module _ (τ : Time) (b : Block) (held : ℕ) (kind : Kind) (e : kindMeant kind ≡ kind_of b) where
+module _ (τ : Time) (b : Block) (held : ℕ) (kind : Kind) (e : kind_meant kind ≡ kind_of b) where
   -- from what was found of the block
-  pub shape-found : (isKindless isPatternless : Bool) (taken breach : ℕ) → isKindless ≡ (kindNumber (kindMeant kind) =? 0)
-      → isPatternless ≡ patternless τ b → taken ≡ takesBy (kindMeant kind) b → breach ≡ brokenBy (kindMeant kind) τ b
-      → refusalBy isKindless isPatternless taken held breach ≡ shapeRefusal τ b held
-  shape-found isKindless isPatternless taken breach n p t w = rw (n, p, t, w) (sym (shape-by τ b held (sym e)))
+  pub shape_found : (is_kindless is_patternless : Bool) (taken breach : ℕ) → is_kindless ≡ (kind_number (kind_meant kind) =? 0)
+      → is_patternless ≡ patternless τ b → taken ≡ takes_by (kind_meant kind) b → breach ≡ broken_by (kind_meant kind) τ b
+      → refusal_by is_kindless is_patternless taken held breach ≡ shape_refusal τ b held
+  shape_found is_kindless is_patternless taken breach n p t w = rw (n, p, t, w) (sym (shape_by τ b held (sym e)))
 
-  pub shape-refused : (n after : ℕ) → n ≡ shapeRefusal τ b held → (n ≡ 0 → ⊥) → after ≡ held → ShapeIs τ b held (record { refusal = n; kind = kind; after = after })
-  shape-refused n after h some a = record { number = h; kind = e; after = a ∙ kept-after n b held some }
+  pub shape_refused : (n after : ℕ) → n ≡ shape_refusal τ b held → (n ≡ 0 → ⊥) → after ≡ held → ShapeIs τ b held (record { refusal = n; kind = kind; after = after })
+  shape_refused n after h some a = record { number = h; kind = e; after = a ∙ kept-after n b held some }
 
-  pub shape-sound : (after : ℕ) → 0 ≡ shapeRefusal τ b held → after ≡ held - takesBy (kindMeant kind) b + 1
+  pub shape_sound : (after : ℕ) → 0 ≡ shape_refusal τ b held → after ≡ held - takes_by (kind_meant kind) b + 1
       → ShapeIs τ b held (record { refusal = 0; kind = kind; after = after })
-  shape-sound after h a = record { number = h; kind = e; after = a ∙ ap (λ (n : ℕ). held - n + 1) (sym (takes-by b (sym e))) }
+  shape_sound after h a = record { number = h; kind = e; after = a ∙ ap (λ (n : ℕ). held - n + 1) (sym (takes-by b (sym e))) }
 
 -- NOT REFUSED
 pub record Passes (taken held breach : ℕ) : Type 0 where
@@ -72,60 +72,60 @@ pub record Passes (taken held breach : ℕ) : Type 0 where
   pub room : held - taken < 20
   pub whole : breach ≡ 0
 
-pub passes : (isKindless isPatternless : Bool) (taken held breach : ℕ) → refusalBy isKindless isPatternless taken held breach ≡ 0 → Passes taken held breach
-passes isKindless isPatternless taken held breach e =
-    let f = neither-met (met isPatternless 18) _ (neither-met (met isKindless 9) _ e).1 in
-    let g = neither-met (met (held <? taken) 10) _ f.1 in
-    let h = neither-met (met (20 ≤? (held - taken)) 11) _ g.1 in
+pub passes : (is_kindless is_patternless : Bool) (taken held breach : ℕ) → refusal_by is_kindless is_patternless taken held breach ≡ 0 → Passes taken held breach
+passes is_kindless is_patternless taken held breach e =
+    let f = neither_met (met is_patternless 18) _ (neither_met (met is_kindless 9) _ e).1 in
+    let g = neither_met (met (held <? taken) 10) _ f.1 in
+    let h = neither_met (met (20 ≤? (held - taken)) 11) _ g.1 in
     record {
-      enough = ltb-false held taken (not-met (held <? taken) 9 g.0);
-      room = leb-false 20 (held - taken) (not-met (20 ≤? (held - taken)) 10 h.0);
+      enough = ltb-false held taken (not_met (held <? taken) 9 g.0);
+      room = leb-false 20 (held - taken) (not_met (20 ≤? (held - taken)) 10 h.0);
       whole = h.1;
     }
 
 pub record Shaped (k : blocks.Kind) (τ : Time) (b : Block) (held : ℕ) : Type 0 where
   pub is : kind_of b ≡ k
-  pub sound : shapeRefusal τ b held ≡ 0
+  pub sound : shape_refusal τ b held ≡ 0
 
 module _ {k : blocks.Kind} (τ : Time) (b : Block) (held : ℕ) (s : Shaped k τ b held) where
-  pub shaped-passes : Passes (takesBy k b) held (brokenBy k τ b)
-  shaped-passes = passes (kindNumber k =? 0) (patternless τ b) (takesBy k b) held (brokenBy k τ b) (sym (shape-by τ b held s.is) ∙ s.sound)
+  pub shaped_passes : Passes (takes_by k b) held (broken_by k τ b)
+  shaped_passes = passes (kind_number k =? 0) (patternless τ b) (takes_by k b) held (broken_by k τ b) (sym (shape_by τ b held s.is) ∙ s.sound)
 
 -- a block without a kind is refused
-pub none-refused : (τ : Time) (b : Block) (held : ℕ) → Shaped NoKind τ b held → ⊥
-none-refused τ b held s = let e : ◌≡◌ {A = ℕ} 9 0 = sym (shape-by τ b held s.is) ∙ s.sound in omega arith
+pub none_refused : (τ : Time) (b : Block) (held : ℕ) → Shaped NoKind τ b held → ⊥
+none_refused τ b held s = let e : ◌≡◌ {A = ℕ} 9 0 = sym (shape_by τ b held s.is) ∙ s.sound in omega arith
 
 -- a reach that 12 does not refuse
-pub reach-shaped : (τ : Time) (b : Block) (held : ℕ) → Shaped Reach τ b held → TimeWithin τ → CardsWithin b → length b.cards ≡ length table
-    → routing.Reach (reachSteps b) τ.minutes (reachK b) (reachX b)
+pub reach_shaped : (τ : Time) (b : Block) (held : ℕ) → Shaped Reach τ b held → TimeWithin τ → CardsWithin b → length b.cards ≡ length table
+    → routing.Reach (reach_steps b) τ.minutes (reach_k b) (reach_x b)
 unfolding if◌then◌else◌
-reach-shaped τ b held s time cards long =
-    let given = kind-must b Reach RM refl (λ e. omega arith) (omega arith) s.is in
-    let small = reach-small τ b time cards in
-    let A = coefA (reachSteps b) τ.minutes in
-    let B = coefB (reachK b) (reachX b) in
-    let C = coefC (reachK b) (reachX b) in
-    let order = routing.routable A B C (not-met (unroutable A B C) 11 (shaped-passes τ b held s).whole) in
+reach_shaped τ b held s time cards long =
+    let given = kind_must b Reach RM refl (λ e. omega arith) (omega arith) s.is in
+    let small = reach_small τ b time cards in
+    let A = coef_a (reach_steps b) τ.minutes in
+    let B = coef_b (reach_k b) (reach_x b) in
+    let C = coef_c (reach_k b) (reach_x b) in
+    let order = routing.routable A B C (not_met (unroutable A B C) 11 (shaped_passes τ b held s).whole) in
     record {
       steps = (cards RM).low given 0 (omega arith);
-      stepsUp = small.steps;
+      steps_up = small.steps;
       minutes = time.some-minutes;
-      minutesUp = small.minutes;
+      minutes_up = small.minutes;
       travel = (cards RM).low given 1 (omega arith);
-      travelUp = small.travel;
+      travel_up = small.travel;
       weight = small.weight;
       low = order.0;
       high = order.1;
     }
 
 -- a pond that 19 does not refuse
-pub pond-shaped : (τ : Time) (b : Block) (held : ℕ) → Shaped Pond τ b held → TimeWithin τ → CardsWithin b → length (pondVolumes b) ≤ 20
-    → PondTable τ.minutes (pondVolumes b) (pondOutflows b)
-pond-shaped τ b held s time cards few =
+pub pond_shaped : (τ : Time) (b : Block) (held : ℕ) → Shaped Pond τ b held → TimeWithin τ → CardsWithin b → length (pond_volumes b) ≤ 20
+    → PondTable τ.minutes (pond_volumes b) (pond_outflows b)
+pond_shaped τ b held s time cards few =
     record {
       minutes = time.few-minutes;
-      volumesUp = (cards SV).high;
-      outflowsUp = (cards SQ).high;
+      volumes_up = (cards SV).high;
+      outflows_up = (cards SQ).high;
       few = few;
-      whole = not-met (tableBreaks τ.minutes (pondVolumes b) (pondOutflows b)) 18 (shaped-passes τ b held s).whole;
+      whole = not_met (table_breaks τ.minutes (pond_volumes b) (pond_outflows b)) 18 (shaped_passes τ b held s).whole;
     }

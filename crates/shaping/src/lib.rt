@@ -2,12 +2,12 @@
 // are held after it.
 ghost use Rattle.std.specs.Prelude.{◌≡◌, List, ℕ};
 ghost use Rattle.meaning.specs.Words.{◌=?◌, met};
-ghost use Rattle.meaning.specs.Blocks.{Reach, Pond, kindNumber, takesBy, patternless, brokenBy, reachSteps, reachK, reachX};
-ghost use Rattle.blocks.specs.Meant.{timeIs};
+ghost use Rattle.meaning.specs.Blocks.{Reach, Pond, kind_number, takes_by, patternless, broken_by, reach_steps, reach_k, reach_x};
+ghost use Rattle.blocks.specs.Meant.{time_is};
 ghost use Rattle.blocks.specs.Cards.{block_of, Readable};
-ghost use Rattle.kinds.specs.Kinds.{kindMeant};
+ghost use Rattle.kinds.specs.Kinds.{kind_meant};
 ghost use Rattle.shaping.specs.Limits.{Read};
-ghost use Rattle.shaping.specs.Shapes.{refusalBy, ShapeIs};
+ghost use Rattle.shaping.specs.Shapes.{refusal_by, ShapeIs};
 
 use blocks::Time;
 use kinds::Kind;
@@ -23,7 +23,7 @@ pub struct Shape {
 }
 
 pub fn number_of(kind: Kind) -> u8
-    ensures { result ≡ kindNumber (kindMeant kind) }
+    ensures { result ≡ kind_number (kind_meant kind) }
 {
     match kind {
         Kind::NoKind => 0,
@@ -37,7 +37,7 @@ pub fn number_of(kind: Kind) -> u8
 
 // Whether the block has no kind.
 fn is_kindless(kind: Kind) -> bool
-    ensures { result ≡ (kindNumber (kindMeant kind) =? 0) }
+    ensures { result ≡ (kind_number (kind_meant kind) =? 0) }
 {
     number_of(kind) == 0
 }
@@ -45,7 +45,7 @@ fn is_kindless(kind: Kind) -> bool
 // How many of those held last a block of the kind takes.
 fn taken_by(kind: Kind, cards: &[u64]) -> usize
     requires { Readable cards.now }
-    ensures { (name : List ℕ) → result ≡ takesBy (kindMeant kind) (block_of name cards.now) }
+    ensures { (name : List ℕ) → result ≡ takes_by (kind_meant kind) (block_of name cards.now) }
 {
     match kind {
         Kind::NoKind => 0,
@@ -67,7 +67,7 @@ pub struct ReachNumbers {
 
 pub fn reach_of(cards: &[u64]) -> ReachNumbers
     requires { Readable cards.now }
-    ensures { (name : List ℕ) → (result.steps ≡ reachSteps (block_of name cards.now)) × (result.k ≡ reachK (block_of name cards.now)) × (result.x ≡ reachX (block_of name cards.now)) }
+    ensures { (name : List ℕ) → (result.steps ≡ reach_steps (block_of name cards.now)) × (result.k ≡ reach_k (block_of name cards.now)) × (result.x ≡ reach_x (block_of name cards.now)) }
 {
     let steps = blocks::value_at(cards, records::RM, 0);
     let k = blocks::value_at(cards, records::RM, 1);
@@ -87,8 +87,8 @@ fn met_by(test: bool, number: u64) -> u64
 
 // A reach whose coefficients are out of order is refused by 12.
 fn refuse_reach(time: Time, cards: &[u64]) -> u64
-    requires { Read (timeIs time) cards.now }
-    ensures { (name : List ℕ) → result ≡ brokenBy Reach (timeIs time) (block_of name cards.now) }
+    requires { Read (time_is time) cards.now }
+    ensures { (name : List ℕ) → result ≡ broken_by Reach (time_is time) (block_of name cards.now) }
 {
     let reach = reach_of(cards);
     let unroutable = routing::is_unroutable(reach.steps, time.minutes, reach.k, reach.x);
@@ -97,8 +97,8 @@ fn refuse_reach(time: Time, cards: &[u64]) -> u64
 
 // A pond whose table breaks a rule is refused by 19.
 fn refuse_pond(time: Time, cards: &[u64]) -> u64
-    requires { Read (timeIs time) cards.now }
-    ensures { (name : List ℕ) → result ≡ brokenBy Pond (timeIs time) (block_of name cards.now) }
+    requires { Read (time_is time) cards.now }
+    ensures { (name : List ℕ) → result ≡ broken_by Pond (time_is time) (block_of name cards.now) }
 {
     let svs = blocks::values(cards, records::SV);
     let sqs = blocks::values(cards, records::SQ);
@@ -108,8 +108,8 @@ fn refuse_pond(time: Time, cards: &[u64]) -> u64
 
 // The refusal of a block of the kind whose values do not go together.
 fn refuse_broken(kind: Kind, time: Time, cards: &[u64]) -> u64
-    requires { Read (timeIs time) cards.now }
-    ensures { (name : List ℕ) → result ≡ brokenBy (kindMeant kind) (timeIs time) (block_of name cards.now) }
+    requires { Read (time_is time) cards.now }
+    ensures { (name : List ℕ) → result ≡ broken_by (kind_meant kind) (time_is time) (block_of name cards.now) }
 {
     match kind {
         Kind::NoKind => 0,
@@ -124,7 +124,7 @@ fn refuse_broken(kind: Kind, time: Time, cards: &[u64]) -> u64
 // Whether a block has a storm's total and no pattern to spread it by. The pattern is looked at only where there is something to spread.
 fn is_patternless(time: Time, cards: &[u64]) -> bool
     requires { Readable cards.now }
-    ensures { (name : List ℕ) → result ≡ patternless (timeIs time) (block_of name cards.now) }
+    ensures { (name : List ℕ) → result ≡ patternless (time_is time) (block_of name cards.now) }
 {
     if blocks::value_at(cards, records::PB, 0) == 0 {
         return false;
@@ -134,7 +134,7 @@ fn is_patternless(time: Time, cards: &[u64]) -> bool
 
 // The refusals in their order: no kind (9), a total without a pattern (18), too few held (10), no room for one more (11), values that do not go together (12 or 19).
 fn refusal_by(kindless: bool, patternless: bool, taken: usize, held: usize, broken: u64) -> u64
-    ensures { result ≡ refusalBy kindless patternless taken held broken }
+    ensures { result ≡ refusal_by kindless patternless taken held broken }
 {
     let few = held < taken;
     if kindless {
@@ -154,8 +154,8 @@ fn refusal_by(kindless: bool, patternless: bool, taken: usize, held: usize, brok
 
 // The shape of the open block where so many are held.
 pub fn shape_of(time: Time, cards: &[u64], held: usize) -> Shape
-    requires { Read (timeIs time) cards.now }
-    ensures { (name : List ℕ) → ShapeIs (timeIs time) (block_of name cards.now) held result }
+    requires { Read (time_is time) cards.now }
+    ensures { (name : List ℕ) → ShapeIs (time_is time) (block_of name cards.now) held result }
 {
     let kind = kinds::kind_of(cards);
     let kindless = is_kindless(kind);

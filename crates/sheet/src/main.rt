@@ -1,13 +1,13 @@
 // Cases from standard input, each the number of a block, the number of a ratio and the deck's length, in 4 bytes each, the lowest first, and the deck (0 names the last
 // block, or the last ratio). The sheets go to standard output, each before a line '--'.
 ghost use Rattle.std.specs.Prelude.{◌≤◌, length};
-ghost use Rattle.sheeting.specs.Sizes.{sheetSize};
+ghost use Rattle.sheeting.specs.Sizes.{sheet_size};
 
 use streams::{Asked, Next};
 
 // Answers whether the sheet and the line behind it were written.
 fn print_sheet(deck: &[u8], named: usize, ratio: usize, out: &mut [u8]) -> bool
-    requires { sheetSize ≤ length out.old }
+    requires { sheet_size ≤ length out.old }
 {
     let end = sheeting::sheet_deck(deck, named, ratio, out);
     if streams::print(&out[..end]) {
@@ -18,7 +18,7 @@ fn print_sheet(deck: &[u8], named: usize, ratio: usize, out: &mut [u8]) -> bool
 
 // Answers whether there was a whole case and its sheet was written.
 fn answer_next(deck: &mut [u8], out: &mut [u8]) -> bool
-    requires { sheetSize ≤ length out.old }
+    requires { sheet_size ≤ length out.old }
 {
     let Asked::Block(case) = streams::next_case() else {
         return false;

@@ -1,8 +1,8 @@
 -- How many bytes the sheet of any block takes at most.
 use Rattle.std.specs.Prelude.{ℕ, ◌+◌, ◌*◌}
-use Rattle.meaning.specs.Records.{mostOrdinates}
-use Rattle.sheets.specs.Sizes.{titleSize, tableSize}
+use Rattle.meaning.specs.Records.{most_ordinates}
+use Rattle.sheets.specs.Sizes.{title_size, table_size}
 
 -- A title and a table, in each of the two measures; a name has at most six letters.
-abbrev pub sheetSize : ℕ
-sheetSize = 2 * (titleSize 6 + tableSize mostOrdinates)
+abbrev pub sheet_size : ℕ
+sheet_size = 2 * (title_size 6 + table_size most_ordinates)

@@ -3,10 +3,10 @@
 ghost use Rattle.std.specs.Prelude.{◌≡◌, ◌++◌, ◌-◌, ◌≤◌, length};
 ghost use Rattle.meaning.specs.Lines.{lines_of};
 ghost use Rattle.meaning.specs.Fields.{Fixed};
-ghost use Rattle.meaning.specs.Records.{mostOrdinates};
+ghost use Rattle.meaning.specs.Records.{most_ordinates};
 ghost use Rattle.meaning.specs.Run.{BeforeTime};
-ghost use Rattle.meaning.specs.Sheet.{Units, Customary, table_of, sheetText, sheet};
-ghost use Rattle.blocks.specs.Meant.{timeIs, nameIs};
+ghost use Rattle.meaning.specs.Sheet.{Units, Customary, table_of, sheet_text, sheet};
+ghost use Rattle.blocks.specs.Meant.{time_is, name_is};
 ghost use Rattle.blocks.specs.Cards.{block_of};
 ghost use Rattle.shaping.specs.Limits.{Read};
 ghost use Rattle.text.specs.Written.{Written};
@@ -14,8 +14,8 @@ ghost use Rattle.text.specs.Counted.{Counted};
 ghost use Rattle.sheets.specs.Tables.{Ruled, ruled};
 ghost use Rattle.finding.specs.Place.{block_at};
 ghost use Rattle.listing.specs.Naming.{number_of};
-ghost use Rattle.sheeting.specs.Sizes.{sheetSize};
-ghost use Rattle.sheeting.specs.Texts.{blockText, sheetAt};
+ghost use Rattle.sheeting.specs.Sizes.{sheet_size};
+ghost use Rattle.sheeting.specs.Texts.{block_text, sheet_at};
 
 use answers::Answer;
 use blocks::{Name, Time};
@@ -37,8 +37,8 @@ fn write_tables(
     sums: &[u64],
 ) -> usize
     requires ruled { Ruled units.now rains.now losses.now excesses.now }
-    requires sums_len { (length sums.now ≡ length excesses.now) × (length excesses.now ≤ mostOrdinates) × (length name.now ≤ 6) × (sheetSize ≤ length out.old) }
-    ensures { Written out.old 0 (blockText ratio name.now (ruled units.now rains.now losses.now excesses.now) sums.now) out.new result }
+    requires sums_len { (length sums.now ≡ length excesses.now) × (length excesses.now ≤ most_ordinates) × (length name.now ≤ 6) × (sheet_size ≤ length out.old) }
+    ensures { Written out.old 0 (block_text ratio name.now (ruled units.now rains.now losses.now excesses.now) sums.now) out.new result }
 {
     let exact = sheets::write_title(out, 0, Measure::Units, ratio, name);
     let next = sheets::write_table(
@@ -75,10 +75,10 @@ fn write_columns(
     excesses: &mut [u64],
     sums: &mut [u64],
 ) -> usize
-    requires read { Read (timeIs time) cards.now }
+    requires read { Read (time_is time) cards.now }
     requires rains_len { (length rains.old ≡ time.ordinates) × (length losses.old ≡ time.ordinates) × (length excesses.old ≡ time.ordinates) × (length sums.old ≡ time.ordinates) }
-    requires letters_bound { (name.letters ≤ 6) × (sheetSize ≤ length out.old) }
-    ensures { Written out.old 0 (table_of Units (timeIs time) (block_of (nameIs name) cards.now) ++ table_of Customary (timeIs time) (block_of (nameIs name) cards.now)) out.new result }
+    requires letters_bound { (name.letters ≤ 6) × (sheet_size ≤ length out.old) }
+    ensures { Written out.old 0 (table_of Units (time_is time) (block_of (name_is name) cards.now) ++ table_of Customary (time_is time) (block_of (name_is name) cards.now)) out.new result }
 {
     columns::fill_columns(rains, losses, excesses, sums, time, cards);
     let letters = name.letters;
@@ -103,9 +103,9 @@ fn blank_column() -> [u64; ORDINATES] {
 
 // The tables of the runoff block that the cards hold.
 fn write_runoff(out: &mut [u8], time: Time, name: Name, cards: &[u64]) -> usize
-    requires read { Read (timeIs time) cards.now }
-    requires letters_bound { (name.letters ≤ 6) × (sheetSize ≤ length out.old) }
-    ensures { Written out.old 0 (table_of Units (timeIs time) (block_of (nameIs name) cards.now) ++ table_of Customary (timeIs time) (block_of (nameIs name) cards.now)) out.new result }
+    requires read { Read (time_is time) cards.now }
+    requires letters_bound { (name.letters ≤ 6) × (sheet_size ≤ length out.old) }
+    ensures { Written out.old 0 (table_of Units (time_is time) (block_of (name_is name) cards.now) ++ table_of Customary (time_is time) (block_of (name_is name) cards.now)) out.new result }
 {
     let n = time.ordinates;
     let mut rains = blank_column();
@@ -126,9 +126,9 @@ fn write_runoff(out: &mut [u8], time: Time, name: Name, cards: &[u64]) -> usize
 
 // The sheet of the block that the cards hold: only a runoff block has one.
 fn write_sheet(out: &mut [u8], time: Time, name: Name, cards: &[u64]) -> usize
-    requires read { Read (timeIs time) cards.now }
-    requires letters_bound { (name.letters ≤ 6) × (sheetSize ≤ length out.old) }
-    ensures { Written out.old 0 (sheetText (timeIs time) (block_of (nameIs name) cards.now)) out.new result }
+    requires read { Read (time_is time) cards.now }
+    requires letters_bound { (name.letters ≤ 6) × (sheet_size ≤ length out.old) }
+    ensures { Written out.old 0 (sheet_text (time_is time) (block_of (name_is name) cards.now)) out.new result }
 {
     let kind = shaping::number_of(kinds::kind_of(cards));
     if kind == 1 {
@@ -149,8 +149,8 @@ fn before(number: usize) -> usize
 
 // The sheet of the block of that number under the ratio of that number, both from 1; nothing where the block is not found.
 fn sheet_block(deck: &[u8], number: usize, ratio: usize, out: &mut [u8]) -> usize
-    requires { sheetSize ≤ length out.old }
-    ensures { Written out.old 0 (sheetAt (ratio - 1) (block_at (lines_of deck.now) (BeforeTime Fixed) number)) out.new result }
+    requires { sheet_size ≤ length out.old }
+    ensures { Written out.old 0 (sheet_at (ratio - 1) (block_at (lines_of deck.now) (BeforeTime Fixed) number)) out.new result }
 {
     let mut cards = [0u64; records::WORDS];
     let found = finding::find_block(deck, number, &mut cards);
@@ -177,7 +177,7 @@ fn number_of(named: usize, count: usize) -> usize
 // The sheet of a deck's block under a ratio, both by their numbers, or the line of its refusal. With 6,000 words, 300 ordinates and the records of 200 blocks
 // under nine ratios 1 is not met, and 17 only where there is no such block or ratio.
 pub fn sheet_deck(deck: &[u8], named: usize, ratio: usize, out: &mut [u8]) -> usize
-    requires { sheetSize ≤ length out.old }
+    requires { sheet_size ≤ length out.old }
     ensures told { Written out.old 0 (sheet deck.now named ratio) out.new result }
     ensures counted { Counted result out.new }
 {

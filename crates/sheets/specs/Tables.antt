@@ -1,27 +1,27 @@
 -- What a table is made from, as the code is lent it.
---     ruled    the sheet of so many intervals as there are excesses; ruled-of: by their number
+--     ruled    the sheet of so many intervals as there are excesses; ruled_of: by their number
 --     Ruled    what is asked of it: a rain and a loss for each excess, and no figure too large
 --     row_at    the row of an interval, if it has excess
 use Rattle.std.specs.Prelude.{ℕ, ◌≡◌, List, [], length, get_or}
 use Rattle.sequences.specs.Bounds.{AllUpTo}
 use Rattle.meaning.specs.Words.{◌<?◌, if◌then◌else◌}
 use Rattle.meaning.specs.Sheet.{Measure, Sheet, row_line}
-use Rattle.cells.specs.Sizes.{mostDepth, mostUnit}
+use Rattle.cells.specs.Sizes.{most_depth, most_unit}
 
 abbrev pub ruled : (units rains losses excesses : List ℕ) → Sheet
 ruled units rains losses excesses = record { units = units; rains = rains; losses = losses; excesses = excesses; intervals = length excesses }
 
-pub ruled-of : (units rains losses excesses : List ℕ) (n : ℕ) → length excesses ≡ n
+pub ruled_of : (units rains losses excesses : List ℕ) (n : ℕ) → length excesses ≡ n
     → ruled units rains losses excesses ≡ record { units = units; rains = rains; losses = losses; excesses = excesses; intervals = n }
-ruled-of units rains losses excesses n long = rw long
+ruled_of units rains losses excesses n long = rw long
 
 pub record Ruled (units rains losses excesses : List ℕ) : Type 0 where
   pub rain-each : length rains ≡ length excesses
   pub loss-each : length losses ≡ length excesses
-  pub units-up : AllUpTo mostUnit units
-  pub rains-up : AllUpTo mostDepth rains
-  pub losses-up : AllUpTo mostDepth losses
-  pub excesses-up : AllUpTo mostDepth excesses
+  pub units-up : AllUpTo most_unit units
+  pub rains-up : AllUpTo most_depth rains
+  pub losses-up : AllUpTo most_depth losses
+  pub excesses-up : AllUpTo most_depth excesses
 
 abbrev pub row_at : Measure → Sheet → (k : ℕ) → List ℕ
 row_at m s k = if 0 <? get_or s.excesses k 0 then row_line m s k else []

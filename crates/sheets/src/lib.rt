@@ -3,11 +3,11 @@
 ghost use Rattle.std.specs.Prelude.{◌≡◌, ◌++◌, ◌+◌, ◌*◌, ◌<◌, ◌≤◌, length};
 ghost use Rattle.sequences.specs.Bounds.{AllUpTo};
 ghost use Rattle.meaning.specs.Words.{bytes};
-ghost use Rattle.meaning.specs.Sheet.{measureName, titleLine, headLine, cellsFrom, row_line, rows_from, sumLine, tableText, noSheetLine};
+ghost use Rattle.meaning.specs.Sheet.{measure_name, title_line, head_line, cells_from, row_line, rows_from, sum_line, table_text, no_sheet_line};
 ghost use Rattle.text.specs.Written.{Written};
-ghost use Rattle.cells.specs.Sizes.{cellSize, mostDepth, mostUnit};
-ghost use Rattle.cells.specs.Cells.{measureIs, shareBy};
-ghost use Rattle.sheets.specs.Sizes.{nameSize, titleSize, noSheetSize, rowSize, tableSize};
+ghost use Rattle.cells.specs.Sizes.{cell_size, most_depth, most_unit};
+ghost use Rattle.cells.specs.Cells.{measure_is, share_by};
+ghost use Rattle.sheets.specs.Sizes.{name_size, title_size, no_sheet_size, row_size, table_size};
 ghost use Rattle.sheets.specs.Tables.{Ruled, ruled, row_at};
 
 use cells::Measure;
@@ -22,8 +22,8 @@ pub const TITLE: usize = 46;
 
 // The measure's name, and the comma behind it.
 fn write_measure(out: &mut [u8], at: usize, measure: Measure) -> usize
-    requires { at + nameSize ≤ length out.old }
-    ensures { Written out.old at (measureName (measureIs measure) ++ bytes ",") out.new result }
+    requires { at + name_size ≤ length out.old }
+    ensures { Written out.old at (measure_name (measure_is measure) ++ bytes ",") out.new result }
 {
     match measure {
         Measure::Units => text::write_text(out, at, b"units,"),
@@ -33,8 +33,8 @@ fn write_measure(out: &mut [u8], at: usize, measure: Measure) -> usize
 
 // The title: the measure, the ratio in force, in hundredths, and the block's name.
 pub fn write_title(out: &mut [u8], at: usize, measure: Measure, ratio: u64, name: &[u8]) -> usize
-    requires { at + titleSize (length name.now) ≤ length out.old }
-    ensures { Written out.old at (titleLine (measureIs measure) ratio name.now) out.new result }
+    requires { at + title_size (length name.now) ≤ length out.old }
+    ensures { Written out.old at (title_line (measure_is measure) ratio name.now) out.new result }
 {
     let second = write_measure(out, at, measure);
     let comma = text::write_two_places(out, second, ratio);
@@ -45,16 +45,16 @@ pub fn write_title(out: &mut [u8], at: usize, measure: Measure, ratio: u64, name
 
 // The line of a block of another kind.
 pub fn write_no_sheet(out: &mut [u8], at: usize, kind: u64) -> usize
-    requires { at + noSheetSize ≤ length out.old }
-    ensures { Written out.old at (noSheetLine kind) out.new result }
+    requires { at + no_sheet_size ≤ length out.old }
+    ensures { Written out.old at (no_sheet_line kind) out.new result }
 {
     text::write_told(out, at, b"NO SHEET ", kind)
 }
 
 // The head of a table, with the numbers of `n` ordinates.
 fn write_head(out: &mut [u8], start: usize, n: usize) -> usize
-    requires { start + rowSize n ≤ length out.old }
-    ensures { Written out.old start (headLine n) out.new result }
+    requires { start + row_size n ≤ length out.old }
+    ensures { Written out.old start (head_line n) out.new result }
 {
     let mut at = text::write_text(out, start, b"interval,rain,loss,excess");
     let mut i = 0;
@@ -75,8 +75,8 @@ fn write_shares(
     k: usize,
     n: usize,
 ) -> usize
-    requires { AllUpTo mostUnit units.now × (excess ≤ mostDepth) × (start + cellSize * n ≤ length out.old) }
-    ensures { Written out.old start (cellsFrom (shareBy (measureIs measure) units.now excess k) 0 n) out.new result }
+    requires { AllUpTo most_unit units.now × (excess ≤ most_depth) × (start + cell_size * n ≤ length out.old) }
+    ensures { Written out.old start (cells_from (share_by (measure_is measure) units.now excess k) 0 n) out.new result }
 {
     let mut at = start;
     let mut i = 0;
@@ -99,8 +99,8 @@ fn write_row(
     k: usize,
 ) -> usize
     requires ruled { Ruled units.now rains.now losses.now excesses.now }
-    requires k_in_bounds { (k < length excesses.now) × (at + rowSize (length excesses.now) ≤ length out.old) }
-    ensures { Written out.old at (row_line (measureIs measure) (ruled units.now rains.now losses.now excesses.now) k) out.new result }
+    requires k_in_bounds { (k < length excesses.now) × (at + row_size (length excesses.now) ≤ length out.old) }
+    ensures { Written out.old at (row_line (measure_is measure) (ruled units.now rains.now losses.now excesses.now) k) out.new result }
 {
     let number = k + 1;
     let depths = text::write_whole(out, at, number as u64);
@@ -121,8 +121,8 @@ fn write_interval(
     k: usize,
 ) -> usize
     requires ruled { Ruled units.now rains.now losses.now excesses.now }
-    requires k_in_bounds { (k < length excesses.now) × (at + rowSize (length excesses.now) ≤ length out.old) }
-    ensures { Written out.old at (row_at (measureIs measure) (ruled units.now rains.now losses.now excesses.now) k) out.new result }
+    requires k_in_bounds { (k < length excesses.now) × (at + row_size (length excesses.now) ≤ length out.old) }
+    ensures { Written out.old at (row_at (measure_is measure) (ruled units.now rains.now losses.now excesses.now) k) out.new result }
 {
     if excesses[k] == 0 {
         return at;
@@ -141,8 +141,8 @@ fn write_rows(
     excesses: &[u64],
 ) -> usize
     requires ruled { Ruled units.now rains.now losses.now excesses.now }
-    requires excesses_in_bounds { start + rowSize (length excesses.now) * length excesses.now ≤ length out.old }
-    ensures { Written out.old start (rows_from (measureIs measure) (ruled units.now rains.now losses.now excesses.now) 0 (length excesses.now)) out.new result }
+    requires excesses_in_bounds { start + row_size (length excesses.now) * length excesses.now ≤ length out.old }
+    ensures { Written out.old start (rows_from (measure_is measure) (ruled units.now rains.now losses.now excesses.now) 0 (length excesses.now)) out.new result }
 {
     let mut at = start;
     let mut k = 0;
@@ -155,8 +155,8 @@ fn write_rows(
 
 // The last row: the sums of the columns.
 fn write_sums(out: &mut [u8], start: usize, measure: Measure, sums: &[u64]) -> usize
-    requires { start + rowSize (length sums.now) ≤ length out.old }
-    ensures { Written out.old start (sumLine (measureIs measure) sums.now (length sums.now)) out.new result }
+    requires { start + row_size (length sums.now) ≤ length out.old }
+    ensures { Written out.old start (sum_line (measure_is measure) sums.now (length sums.now)) out.new result }
 {
     let mut at = text::write_text(out, start, b"sum,,,");
     let mut column = 0;
@@ -179,8 +179,8 @@ pub fn write_table(
     sums: &[u64],
 ) -> usize
     requires ruled { Ruled units.now rains.now losses.now excesses.now }
-    requires sums_len { (length sums.now ≡ length excesses.now) × (at + tableSize (length excesses.now) ≤ length out.old) }
-    ensures { Written out.old at (tableText (measureIs measure) (ruled units.now rains.now losses.now excesses.now) sums.now) out.new result }
+    requires sums_len { (length sums.now ≡ length excesses.now) × (at + table_size (length excesses.now) ≤ length out.old) }
+    ensures { Written out.old at (table_text (measure_is measure) (ruled units.now rains.now losses.now excesses.now) sums.now) out.new result }
 {
     let rows = write_head(out, at, excesses.len());
     let last = write_rows(out, rows, measure, units, rains, losses, excesses);

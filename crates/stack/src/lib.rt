@@ -3,15 +3,15 @@
 ghost use Rattle.std.specs.Prelude.{◌≡◌, ◌∷◌, ℕ, ◌+◌, ◌-◌, ◌*◌, ◌≤◌, ◌<◌, ◌^◌, length, take, drop, get_or};
 ghost use Rattle.sequences.specs.Bounds.{AllUpTo};
 ghost use Rattle.sequences.specs.Parts.{part, put};
-ghost use Rattle.meaning.specs.Water.{inflowOf, plus, routedOf};
-ghost use Rattle.meaning.specs.Pool.{rows_of, pondedOf, overtopped};
+ghost use Rattle.meaning.specs.Water.{inflow_of, plus, routed_of};
+ghost use Rattle.meaning.specs.Pool.{rows_of, ponded_of, overtopped};
 ghost use Rattle.meaning.specs.Blocks.{total};
-ghost use Rattle.meaning.specs.Records.{mostOrdinates};
+ghost use Rattle.meaning.specs.Records.{most_ordinates};
 ghost use Rattle.routing.specs.Soundness.{Reach};
 ghost use Rattle.pond.specs.Tables.{PondTable};
-ghost use Rattle.runoff.specs.Storm.{StormWithin, stormRunoff};
-ghost use Rattle.stack.specs.View.{Fits, view, noneHeld, pushed, held_of, routedHeld, pondedHeld};
-ghost use Rattle.stack.specs.Joining.{joinedPair, joinedWords, joinedStack, joinedAllWords};
+ghost use Rattle.runoff.specs.Storm.{StormWithin, storm_runoff};
+ghost use Rattle.stack.specs.View.{Fits, view, none_held, pushed, held_of, routed_held, ponded_held};
+ghost use Rattle.stack.specs.Joining.{joined_pair, joined_words, joined_stack, joined_all_words};
 ghost use Rattle.stack.specs.Limits.{Tops, Within, Added};
 
 use excess::Storm;
@@ -30,7 +30,7 @@ pub struct Stack {
 }
 
 pub fn hold_none() -> Stack
-    ensures { result ≡ noneHeld }
+    ensures { result ≡ none_held }
 {
     Stack {
         areas: [0u32; 20],
@@ -64,8 +64,8 @@ pub fn hold_basin(
     requires fits { Fits (stack.depth + 1) nq (length work.old) }
     requires storm_within { StormWithin units.now rains.now storm nq }
     ensures value { result ≡ pushed area stack }
-    ensures words { work.new ≡ put (mostOrdinates * stack.depth) nq work.old (stormRunoff units.now rains.now storm nq) }
-    ensures held { view result nq work.new ≡ held_of area (stormRunoff units.now rains.now storm nq) ∷ view stack nq work.old }
+    ensures words { work.new ≡ put (most_ordinates * stack.depth) nq work.old (storm_runoff units.now rains.now storm nq) }
+    ensures held { view result nq work.new ≡ held_of area (storm_runoff units.now rains.now storm nq) ∷ view stack nq work.old }
 {
     let p = PLACE * stack.depth;
     runoff::runoff_into(&mut work[p..p + nq], units, rains, storm);
@@ -77,8 +77,8 @@ pub fn hold_inflow(work: &mut [u64], stack: Stack, nq: usize, area: u32, values:
     requires fits { Fits (stack.depth + 1) nq (length work.old) }
     requires all_up_to { AllUpTo 10_000_000 values.now }
     ensures value { result ≡ pushed area stack }
-    ensures words { work.new ≡ put (mostOrdinates * stack.depth) nq work.old (inflowOf values.now nq) }
-    ensures held { view result nq work.new ≡ held_of area (inflowOf values.now nq) ∷ view stack nq work.old }
+    ensures words { work.new ≡ put (most_ordinates * stack.depth) nq work.old (inflow_of values.now nq) }
+    ensures held { view result nq work.new ≡ held_of area (inflow_of values.now nq) ∷ view stack nq work.old }
 {
     let p = PLACE * stack.depth;
     runoff::inflow_into(&mut work[p..p + nq], values);
@@ -104,7 +104,7 @@ fn join_pair(work: &mut [u64], stack: Stack, nq: usize) -> Stack
     requires le_depth { (2 ≤ stack.depth) × Fits stack.depth nq (length work.old) }
     requires tops { Tops 24_000_000_000_000 (view stack nq work.old) }
     requires work_bound { (total (view stack nq work.old)).area ≤ 199_999_800 }
-    ensures { (result ≡ joinedPair stack) × (work.new ≡ joinedWords stack.depth nq work.old) }
+    ensures { (result ≡ joined_pair stack) × (work.new ≡ joined_words stack.depth nq work.old) }
 {
     let last = stack.depth - 1;
     let lower = stack.depth - 2;
@@ -121,8 +121,8 @@ pub fn join_last(work: &mut [u64], stack: Stack, nq: usize, n: usize) -> Stack
     requires fits { Fits stack.depth nq (length work.old) }
     requires within { Within (view stack nq work.old) }
     requires work_bound { (total (view stack nq work.old)).area ≤ 199_999_800 }
-    ensures value { result ≡ joinedStack (n - 1) stack }
-    ensures words { work.new ≡ joinedAllWords (n - 1) stack.depth nq work.old }
+    ensures value { result ≡ joined_stack (n - 1) stack }
+    ensures words { work.new ≡ joined_all_words (n - 1) stack.depth nq work.old }
     ensures held { view result nq work.new ≡ total (take n (view stack nq work.old)) ∷ drop n (view stack nq work.old) }
 {
     let mut joined = stack;
@@ -139,8 +139,8 @@ pub fn route_last(work: &mut [u64], stack: Stack, nq: usize, n: u64, m: u64, k: 
     requires le_depth { (1 ≤ stack.depth) × Fits stack.depth nq (length work.old) }
     requires within { Within (view stack nq work.old) }
     requires reach { Reach n m k x }
-    ensures work_after { work.new ≡ put (mostOrdinates * (stack.depth - 1)) nq work.old (routedOf n m k x (part (mostOrdinates * (stack.depth - 1)) nq work.old)) }
-    ensures held { view stack nq work.new ≡ routedHeld n m k x (total (take 1 (view stack nq work.old))) ∷ drop 1 (view stack nq work.old) }
+    ensures work_after { work.new ≡ put (most_ordinates * (stack.depth - 1)) nq work.old (routed_of n m k x (part (most_ordinates * (stack.depth - 1)) nq work.old)) }
+    ensures held { view stack nq work.new ≡ routed_held n m k x (total (take 1 (view stack nq work.old))) ∷ drop 1 (view stack nq work.old) }
 {
     let p = PLACE * (stack.depth - 1);
     routing::route(&mut work[p..p + nq], n, m, k, x);
@@ -159,8 +159,8 @@ pub fn pond_last(
     requires within { Within (view stack nq work.old) }
     requires pond_table { PondTable m svs.now sqs.now }
     ensures value { result ≡ overtopped m (rows_of svs.now sqs.now) (total (take 1 (view stack nq work.old))).flow }
-    ensures words { work.new ≡ put (mostOrdinates * (stack.depth - 1)) nq work.old (pondedOf m (rows_of svs.now sqs.now) (part (mostOrdinates * (stack.depth - 1)) nq work.old)) }
-    ensures held { view stack nq work.new ≡ pondedHeld m (rows_of svs.now sqs.now) (total (take 1 (view stack nq work.old))) ∷ drop 1 (view stack nq work.old) }
+    ensures words { work.new ≡ put (most_ordinates * (stack.depth - 1)) nq work.old (ponded_of m (rows_of svs.now sqs.now) (part (most_ordinates * (stack.depth - 1)) nq work.old)) }
+    ensures held { view stack nq work.new ≡ ponded_held m (rows_of svs.now sqs.now) (total (take 1 (view stack nq work.old))) ∷ drop 1 (view stack nq work.old) }
 {
     let p = PLACE * (stack.depth - 1);
     pond::pass_pool(&mut work[p..p + nq], m, svs, sqs)

@@ -2,8 +2,8 @@
 // 0: a deck, whose records go to standard output. 1: a result file in the old form, which goes there in the new. 2: one in the new form, which goes there in the old.
 // Where that is refused nothing goes there, and the refusal to standard error: for a deck its number and line, for a file its number, 0 for one too long.
 ghost use Rattle.std.specs.Prelude.{◌≡◌, length};
-ghost use Rattle.moving.specs.Answers.{outcomeIs};
-ghost use Rattle.store.specs.Kept.{movedAs};
+ghost use Rattle.moving.specs.Answers.{outcome_is};
+ghost use Rattle.store.specs.Kept.{moved_as};
 
 use answers::Answer;
 use listing::{ORDINATES, RECORDS};
@@ -53,7 +53,7 @@ fn keep_records(deck: &[u8]) {
 
 // 1 asks for the new form, 2 for the old.
 fn move_file(asked: usize, file: &[u8], room: &mut [u8]) -> Move
-    ensures { outcomeIs result room.new ≡ movedAs asked file.now (length room.old) }
+    ensures { outcome_is result room.new ≡ moved_as asked file.now (length room.old) }
 {
     if asked == 1 {
         return moving::to_new(file, room);

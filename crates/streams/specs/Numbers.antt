@@ -5,7 +5,7 @@
 --     Kept          of a deck of that size, as many bytes as are lent for it
 --     Fits          of a deck of any size that four bytes hold
 --     of_number     what holds of the number that was answered
---     kept-fits     what is kept of a deck lies within what is lent
+--     kept_fits     what is kept of a deck lies within what is lent
 use Rattle.std.specs.Prelude.{◌≡◌, List, ℕ, ◌^◌, ◌≤◌, ◌<◌, min, length}
 use Rattle.std.proofs.Common.{subst, arith}
 use Rattle.streams.specs.declared.Case.{Case}
@@ -44,8 +44,8 @@ Fits lent = OfNumber (λ n. n ≤ length lent)
 pub of_number : (P : ℕ → Type 0) {n : ℕ} {next : Next} → next ≡ Number n → OfNumber P next → P n
 of_number P told p = subst (OfNumber P) told p
 
-pub kept-fits : (size : ℕ) (lent : List ℕ) (next : Next) → Kept size lent next → Fits lent next
-kept-fits size lent (Number n) kept = omega arith
-kept-fits size lent End kept = tt
-kept-fits size lent Cut kept = tt
-kept-fits size lent Failed kept = tt
+pub kept_fits : (size : ℕ) (lent : List ℕ) (next : Next) → Kept size lent next → Fits lent next
+kept_fits size lent (Number n) kept = omega arith
+kept_fits size lent End kept = tt
+kept_fits size lent Cut kept = tt
+kept_fits size lent Failed kept = tt

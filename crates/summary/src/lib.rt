@@ -1,7 +1,7 @@
 // The summary of a hydrograph: its peak, the first interval of the peak, and the sum of its ordinates. Above the limit of a flow there is none.
 ghost use Rattle.std.specs.Prelude.{◌≡◌, ◌≤◌, length};
-ghost use Rattle.meaning.specs.Records.{mostOrdinates};
-ghost use Rattle.summary.specs.Summary.{noSummary, summaryWithin};
+ghost use Rattle.meaning.specs.Records.{most_ordinates};
+ghost use Rattle.summary.specs.Summary.{no_summary, summary_within};
 
 // 100,000 cfs.
 const FLOW_LIMIT: u64 = 6_000_000_000_000;
@@ -15,7 +15,7 @@ pub struct Summary {
 }
 
 pub fn none() -> Summary
-    ensures { result ≡ noSummary }
+    ensures { result ≡ no_summary }
 {
     Summary {
         peak: 0,
@@ -26,8 +26,8 @@ pub fn none() -> Summary
 
 // The peak, its first interval from 1, and the sum. Nothing above the limit is ever added: ordinates that high need not add up in a word.
 pub fn summarize(q: &[u64]) -> Summary
-    requires { length q.now ≤ mostOrdinates }
-    ensures { result ≡ summaryWithin q.now }
+    requires { length q.now ≤ most_ordinates }
+    ensures { result ≡ summary_within q.now }
 {
     let mut peak = 0;
     let mut first = 0;

@@ -1,13 +1,13 @@
 // A line's values taken, once its fields are read without a fault: into the time control, or into the open block.
 ghost use Rattle.std.specs.Prelude.{◌≡◌, ℕ, ◌≤◌, ◌<◌, List, length, get_or};
-ghost use Rattle.meaning.specs.Records.{mostOrdinates};
+ghost use Rattle.meaning.specs.Records.{most_ordinates};
 ghost use Rattle.records.specs.Rows.{items};
-ghost use Rattle.blocks.specs.Meant.{ratiosIs, timeIs};
-ghost use Rattle.scanning.specs.Scans.{scannedOf};
+ghost use Rattle.blocks.specs.Meant.{ratios_is, time_is};
+ghost use Rattle.scanning.specs.Scans.{scanned_of};
 ghost use Rattle.placing.specs.Readings.{Ready};
 ghost use Rattle.placing.specs.Places.{Due, DueTime};
-ghost use Rattle.taking.specs.Ratios.{anyZero};
-ghost use Rattle.taking.specs.Taken.{withTime, TimeTaken, RatiosTaken, Passed, LineTaken, stays};
+ghost use Rattle.taking.specs.Ratios.{any_zero};
+ghost use Rattle.taking.specs.Taken.{with_time, TimeTaken, RatiosTaken, Passed, LineTaken, stays};
 
 use blocks::{Ratios, Time};
 use placing::{Phase, Reading};
@@ -25,7 +25,7 @@ const OUTSIDE: u64 = 7;
 
 // A reading behind IT, under that time control.
 fn with_time(r: Reading, time: Time) -> Reading
-    ensures { result ≡ withTime r time }
+    ensures { result ≡ with_time r time }
 {
     let name = r.name;
     Reading {
@@ -38,7 +38,7 @@ fn with_time(r: Reading, time: Time) -> Reading
 
 // IT taken: minutes and ordinates.
 fn take_time(r: Reading, values: &[u64]) -> Read
-    requires { (length values.now ≡ 10) × (get_or values.now 3 0 ≤ mostOrdinates) }
+    requires { (length values.now ≡ 10) × (get_or values.now 3 0 ≤ most_ordinates) }
     ensures { TimeTaken r values.now result }
 {
     let time = Time {
@@ -55,7 +55,7 @@ fn take_time(r: Reading, values: &[u64]) -> Read
 
 // Whether a ratio is 0, as a blank one between others is.
 fn has_zero(ratios: &[u64]) -> bool
-    ensures { result ≡ anyZero ratios.now }
+    ensures { result ≡ any_zero ratios.now }
 {
     let mut i = 0;
     while i < ratios.len() {
@@ -70,7 +70,7 @@ fn has_zero(ratios: &[u64]) -> bool
 // Ratios copied out of a line's values.
 fn copy_ratios(listed: &[u64]) -> Ratios
     requires { length listed.now ≤ 9 }
-    ensures { (ratiosIs result ≡ listed.now) × (result.count ≤ 9) }
+    ensures { (ratios_is result ≡ listed.now) × (result.count ≤ 9) }
 {
     let mut values = [0u64; 9];
     slices::copy_words(&mut values, listed);
@@ -112,8 +112,8 @@ fn take_ratios(r: Reading, values: &[u64], count: usize) -> Read
 
 // The values of IT or JR, read without a fault: outside their limits they are refused by 7, else they are taken.
 pub fn take_control(r: Reading, item: usize, values: &[u64], scan: Scan) -> Read
-    requires { DueTime r.phase (timeIs r.time) item × Passed item (scannedOf values.now scan) }
-    ensures { (w : List ℕ) → Ready r w → LineTaken r item (scannedOf values.now scan) result w w }
+    requires { DueTime r.phase (time_is r.time) item × Passed item (scanned_of values.now scan) }
+    ensures { (w : List ℕ) → Ready r w → LineTaken r item (scanned_of values.now scan) result w w }
 {
     if scan.outside {
         return Read {
@@ -135,9 +135,9 @@ pub fn take_control(r: Reading, item: usize, values: &[u64], scan: Scan) -> Read
 // The values of a record of the open block, read without a fault: outside their limits they are refused by 7, else they are taken, or refused by 8.
 // The reading stays where it stands, and is not answered: such lines are most of a deck.
 pub fn take_item(r: Reading, item: usize, values: &[u64], scan: Scan, cards: &mut [u64]) -> u64
-    requires item_lt { (item < items) × Ready r cards.old × Due r.phase (timeIs r.time) item cards.old }
-    requires passed { Passed item (scannedOf values.now scan) }
-    ensures { LineTaken r item (scannedOf values.now scan) (stays r result) cards.old cards.new }
+    requires item_lt { (item < items) × Ready r cards.old × Due r.phase (time_is r.time) item cards.old }
+    requires passed { Passed item (scanned_of values.now scan) }
+    ensures { LineTaken r item (scanned_of values.now scan) (stays r result) cards.old cards.new }
 {
     if scan.outside {
         return OUTSIDE;

@@ -1,9 +1,9 @@
 // What is told of the hydrograph held last: its place in the work words, its area and its summary; and the type of a closed block.
 ghost use Rattle.std.specs.Prelude.{◌≡◌, ◌-◌, ◌*◌, ◌≤◌, length, get_or};
 ghost use Rattle.sequences.specs.Parts.{part};
-ghost use Rattle.meaning.specs.Records.{mostOrdinates};
+ghost use Rattle.meaning.specs.Records.{most_ordinates};
 ghost use Rattle.stack.specs.View.{Fits};
-ghost use Rattle.summary.specs.Summary.{summaryWithin};
+ghost use Rattle.summary.specs.Summary.{summary_within};
 
 use stack::Stack;
 use summary::Summary;
@@ -21,7 +21,7 @@ pub struct Closed {
 // Where the hydrograph held last begins in the work words.
 pub fn last_place(held: Stack) -> usize
     requires { (1 ≤ held.depth) × (held.depth ≤ 20) }
-    ensures { result ≡ mostOrdinates * (held.depth - 1) }
+    ensures { result ≡ most_ordinates * (held.depth - 1) }
 {
     stack::PLACE * (held.depth - 1)
 }
@@ -38,7 +38,7 @@ pub fn last_area(held: Stack) -> u32
 // The summary of the hydrograph held last, none where it passes the limit of a flow.
 pub fn summarize_last(work: &[u64], held: Stack, nq: usize) -> Summary
     requires { (1 ≤ held.depth) × Fits held.depth nq (length work.now) }
-    ensures { result ≡ summaryWithin (part (mostOrdinates * (held.depth - 1)) nq work.now) }
+    ensures { result ≡ summary_within (part (most_ordinates * (held.depth - 1)) nq work.now) }
 {
     let p = last_place(held);
     summary::summarize(&work[p..p + nq])

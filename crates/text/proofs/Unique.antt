@@ -1,6 +1,6 @@
 -- Two outcomes that meet a contract of this crate, as its `ensures` line has it, are equal: of a text that is written, every byte lent and the place behind it.
 use mathlib.Core.Path.{◌≡◌, sym, ◌∙◌}
-use Rattle.sequences.specs.Contracts.{Once}
+use Rattle.sequences.specs.OneOutcome.{Once}
 use Rattle.text.specs.Written.{written_once}
 use Rattle.text.proofs.write_byte.Kinds as write_byte
 use Rattle.text.proofs.write_byte.Reads as write-byte-says
@@ -21,29 +21,29 @@ use Rattle.text.proofs.write_told.Reads as write-told-says
 use Rattle.text.proofs.trim_blanks.Kinds as trim-blanks
 use Rattle.text.proofs.trim_blanks.Reads as trim-blanks-says
 
-pub one-write-byte : Once write_byte.ps write_byte.r write-byte-says.Post (λ κs x y e f. (x ≡ y) × (e.0.now ≡ f.0.now))
-one-write-byte κs a x y e f p q = written_once p q
+pub one_write_byte : Once write_byte.ps write_byte.r write-byte-says.Post (λ κs x y e f. (x ≡ y) × (e.0.now ≡ f.0.now))
+one_write_byte κs a x y e f p q = written_once p q
 
-pub one-write-text : Once write-text.ps write-text.r write-text-says.Post (λ κs x y e f. (x ≡ y) × (e.0.now ≡ f.0.now))
-one-write-text κs a x y e f p q = written_once p q
+pub one_write_text : Once write-text.ps write-text.r write-text-says.Post (λ κs x y e f. (x ≡ y) × (e.0.now ≡ f.0.now))
+one_write_text κs a x y e f p q = written_once p q
 
-pub one-write-whole : Once write-whole.ps write-whole.r write-whole-says.Post (λ κs x y e f. (x ≡ y) × (e.0.now ≡ f.0.now))
-one-write-whole κs a x y e f p q = written_once p q
+pub one_write_whole : Once write-whole.ps write-whole.r write-whole-says.Post (λ κs x y e f. (x ≡ y) × (e.0.now ≡ f.0.now))
+one_write_whole κs a x y e f p q = written_once p q
 
-pub one-write-two-places : Once write-two-places.ps write-two-places.r write-two-places-says.Post (λ κs x y e f. (x ≡ y) × (e.0.now ≡ f.0.now))
-one-write-two-places κs a x y e f p q = written_once p q
+pub one_write_two_places : Once write-two-places.ps write-two-places.r write-two-places-says.Post (λ κs x y e f. (x ≡ y) × (e.0.now ≡ f.0.now))
+one_write_two_places κs a x y e f p q = written_once p q
 
-pub one-write-six-places : Once write-six-places.ps write-six-places.r write-six-places-says.Post (λ κs x y e f. (x ≡ y) × (e.0.now ≡ f.0.now))
-one-write-six-places κs a x y e f p q = written_once p q
+pub one_write_six-places : Once write-six-places.ps write-six-places.r write-six-places-says.Post (λ κs x y e f. (x ≡ y) × (e.0.now ≡ f.0.now))
+one_write_six-places κs a x y e f p q = written_once p q
 
-pub one-write-number : Once write-number.ps write-number.r write-number-says.Post (λ κs x y e f. (x ≡ y) × (e.0.now ≡ f.0.now))
-one-write-number κs a x y e f p q = written_once p q
+pub one_write_number : Once write-number.ps write-number.r write-number-says.Post (λ κs x y e f. (x ≡ y) × (e.0.now ≡ f.0.now))
+one_write_number κs a x y e f p q = written_once p q
 
-pub one-write-amount : Once write-amount.ps write-amount.r write-amount-says.Post (λ κs x y e f. (x ≡ y) × (e.0.now ≡ f.0.now))
-one-write-amount κs a x y e f p q = written_once p q
+pub one_write_amount : Once write-amount.ps write-amount.r write-amount-says.Post (λ κs x y e f. (x ≡ y) × (e.0.now ≡ f.0.now))
+one_write_amount κs a x y e f p q = written_once p q
 
-pub one-write-told : Once write-told.ps write-told.r write-told-says.Post (λ κs x y e f. (x ≡ y) × (e.0.now ≡ f.0.now))
-one-write-told κs a x y e f p q = written_once p q
+pub one_write_told : Once write-told.ps write-told.r write-told-says.Post (λ κs x y e f. (x ≡ y) × (e.0.now ≡ f.0.now))
+one_write_told κs a x y e f p q = written_once p q
 
-pub one-trim-blanks : Once trim-blanks.ps trim-blanks.r trim-blanks-says.Post (λ κs x y e f. x.now ≡ y.now)
-one-trim-blanks κs a x y e f p q = p ∙ sym q
+pub one_trim_blanks : Once trim-blanks.ps trim-blanks.r trim-blanks-says.Post (λ κs x y e f. x.now ≡ y.now)
+one_trim_blanks κs a x y e f p q = p ∙ sym q

@@ -2,10 +2,10 @@
 // Each function that writes answers the place behind what it wrote.
 ghost use Rattle.std.specs.Prelude.{◌≡◌, [], ◌∷◌, ◌++◌, ◌+◌, ◌<◌, ◌≤◌, length};
 ghost use Rattle.meaning.specs.Lines.{blank};
-ghost use Rattle.meaning.specs.Fields.{trimEnd, isBlank};
-ghost use Rattle.meaning.specs.Listing.{digit, whole, twoPlaces};
-ghost use Rattle.meaning.specs.Sheet.{sixPlaces};
-ghost use Rattle.text.specs.Digits.{threeDigits};
+ghost use Rattle.meaning.specs.Fields.{trim_end, is_blank};
+ghost use Rattle.meaning.specs.Listing.{digit, whole, two_places};
+ghost use Rattle.meaning.specs.Sheet.{six_places};
+ghost use Rattle.text.specs.Digits.{three_digits};
 ghost use Rattle.text.specs.Line.{line};
 ghost use Rattle.text.specs.Written.{Written};
 
@@ -45,8 +45,8 @@ pub fn write_whole(out: &mut [u8], at: usize, x: u64) -> usize
 
 // Hundredths, with two places.
 pub fn write_two_places(out: &mut [u8], at: usize, x: u64) -> usize
-    requires { at + length (twoPlaces x) ≤ length out.old }
-    ensures { Written out.old at (twoPlaces x) out.new result }
+    requires { at + length (two_places x) ≤ length out.old }
+    ensures { Written out.old at (two_places x) out.new result }
 {
     let point = write_whole(out, at, x / 100);
     let tenths = write_byte(out, point, b'.');
@@ -57,7 +57,7 @@ pub fn write_two_places(out: &mut [u8], at: usize, x: u64) -> usize
 // The last three digits, zeros too.
 fn write_three_digits(out: &mut [u8], at: usize, x: u64) -> usize
     requires { at + 3 ≤ length out.old }
-    ensures { Written out.old at (threeDigits x) out.new result }
+    ensures { Written out.old at (three_digits x) out.new result }
 {
     let second = write_byte(out, at, digit_of(x / 100 % 10));
     let third = write_byte(out, second, digit_of(x / 10 % 10));
@@ -66,8 +66,8 @@ fn write_three_digits(out: &mut [u8], at: usize, x: u64) -> usize
 
 // Millionths, with six places.
 pub fn write_six_places(out: &mut [u8], at: usize, x: u64) -> usize
-    requires { at + length (sixPlaces x) ≤ length out.old }
-    ensures { Written out.old at (sixPlaces x) out.new result }
+    requires { at + length (six_places x) ≤ length out.old }
+    ensures { Written out.old at (six_places x) out.new result }
 {
     let point = write_whole(out, at, x / 1_000_000);
     let places = write_byte(out, point, b'.');
@@ -86,8 +86,8 @@ pub fn write_number(out: &mut [u8], at: usize, x: u64) -> usize
 
 // A blank and hundredths.
 pub fn write_amount(out: &mut [u8], at: usize, x: u64) -> usize
-    requires { at + length (blank ∷ twoPlaces x) ≤ length out.old }
-    ensures { Written out.old at (blank ∷ twoPlaces x) out.new result }
+    requires { at + length (blank ∷ two_places x) ≤ length out.old }
+    ensures { Written out.old at (blank ∷ two_places x) out.new result }
 {
     let next = write_byte(out, at, b' ');
     write_two_places(out, next, x)
@@ -105,7 +105,7 @@ pub fn write_told(out: &mut [u8], at: usize, word: &[u8], x: u64) -> usize
 
 // Without the blanks at the end.
 pub fn trim_blanks(s: &[u8]) -> &[u8]
-    ensures { result.now ≡ trimEnd isBlank s.now }
+    ensures { result.now ≡ trim_end is_blank s.now }
 {
     let mut n = s.len();
     while 0 < n {

@@ -5,19 +5,19 @@ use mathlib.Core.Path.{◌≡◌, sym, ap, ◌∙◌}
 use mathlib.Core.Bool.{Bool, true, false, true≢false}
 use mathlib.Core.List.{List}
 use mathlib.Core.Logic.{⊎_elim}
-use Rattle.sequences.specs.Contracts.{Once}
+use Rattle.sequences.specs.OneOutcome.{Once}
 use Rattle.sequences.specs.Choices.{below_or_not}
 use Rattle.meaning.specs.Run as run
-use Rattle.meaning.specs.Run.{mostBlocks}
+use Rattle.meaning.specs.Run.{most_blocks}
 use Rattle.blocks.specs.declared.Name.{Name}
 use Rattle.placing.specs.declared.Reading.{Reading}
-use Rattle.placing.specs.Readings.{readingIs}
+use Rattle.placing.specs.Readings.{reading_is}
 use Rattle.stack.specs.declared.Stack.{Stack}
 use Rattle.turns.specs.declared.State.{State}
 use Rattle.turns.specs.declared.Worked.{Worked}
 use Rattle.turns.specs.declared.Turn.{Turn}
 use Rattle.turns.specs.declared.Finished.{Finished}
-use Rattle.turns.specs.Turns.{Stops, GoesOn, OpensNext, EndsDeck, is-or-not}
+use Rattle.turns.specs.Turns.{Stops, GoesOn, OpensNext, EndsDeck, is_or_not}
 use Rattle.turns.proofs.first_state.Kinds as first-state
 use Rattle.turns.proofs.first_state.Reads as first-state-says
 use Rattle.turns.proofs.stop.Kinds as stop
@@ -36,48 +36,48 @@ pub record Stand : Type 0 where
   pub blocks : ℕ
 
 abbrev stand : State → List ℕ → Stand
-stand s cards = record { reading = readingIs s.reading cards; held = s.held; at = s.at; line = s.line; blocks = s.blocks }
+stand s cards = record { reading = reading_is s.reading cards; held = s.held; at = s.at; line = s.line; blocks = s.blocks }
 
 -- what a turn says
 pub data Said : Type 0 where
   Ended : Worked → Said
   Goes : Stand → Said
 
-abbrev saidBy : Bool → State → Worked → List ℕ → Said
-saidBy true s w cards = Ended w
-saidBy false s w cards = Goes (stand s cards)
+abbrev said_by : Bool → State → Worked → List ℕ → Said
+said_by true s w cards = Ended w
+said_by false s w cards = Goes (stand s cards)
 
 abbrev said : Turn → List ℕ → Said
-said t cards = saidBy t.ended t.state t.worked cards
+said t cards = said_by t.ended t.state t.worked cards
 
-pub one-first-state : Once first-state.ps first-state.r first-state-says.Post (λ κs x y e f. stand x e.0.now ≡ stand y f.0.now)
-one-first-state κs a x y e f p q =
+pub one_first_state : Once first-state.ps first-state.r first-state-says.Post (λ κs x y e f. stand x e.0.now ≡ stand y f.0.now)
+one_first_state κs a x y e f p q =
     rw (p.reading.is, p.held, p.at, p.line, p.blocks, q.reading.is, q.held, q.at, q.line, q.blocks)
 
-pub one-stop : Once stop.ps stop.r stop-says.Post (λ κs x y e f. (x.ended ≡ y.ended) × (x.worked ≡ y.worked))
-one-stop κs a x y e f p q = (p.ended ∙ sym q.ended, p.worked ∙ sym q.worked)
+pub one_stop : Once stop.ps stop.r stop-says.Post (λ κs x y e f. (x.ended ≡ y.ended) × (x.worked ≡ y.worked))
+one_stop κs a x y e f p q = (p.ended ∙ sym q.ended, p.worked ∙ sym q.worked)
 
 module _ (line : ℕ) (x y : Turn) (cards cards' : List ℕ) where
-  stops-once : {number : ℕ} → Stops number line x → Stops number line y → said x cards ≡ said y cards'
-  stops-once p q = rw (p.ended, p.worked, q.ended, q.worked)
+  stops_once : {number : ℕ} → Stops number line x → Stops number line y → said x cards ≡ said y cards'
+  stops_once p q = rw (p.ended, p.worked, q.ended, q.worked)
 
-  goes-once : (r : Reading) (held : Stack) (name : Name) (at blocks : ℕ) → GoesOn r held name at line blocks x cards → GoesOn r held name at line blocks y cards'
+  goes_once : (r : Reading) (held : Stack) (name : Name) (at blocks : ℕ) → GoesOn r held name at line blocks x cards → GoesOn r held name at line blocks y cards'
       → said x cards ≡ said y cards'
-  goes-once r held name at blocks p q =
+  goes_once r held name at blocks p q =
       rw (p.ended, q.ended, p.reading.is, p.holds, p.place, p.lines, p.count, q.reading.is, q.holds, q.place, q.lines, q.count)
 
-  opens-once : (r : Reading) (name : Name) (at : ℕ) (closed : Finished) (blocks : ℕ) → OpensNext r name at line closed blocks x cards → OpensNext r name at line closed blocks y cards'
+  opens_once : (r : Reading) (name : Name) (at : ℕ) (closed : Finished) (blocks : ℕ) → OpensNext r name at line closed blocks x cards → OpensNext r name at line closed blocks y cards'
       → said x cards ≡ said y cards'
-  opens-once r name at closed blocks p q =
+  opens_once r name at closed blocks p q =
       ⊎_elim
       (λ z.
-      ⊎_elim (λ few. goes-once r closed.held name at blocks (p.goes z few) (q.goes z few)) (λ many. stops-once (p.many z many) (q.many z many))
-      (below_or_not blocks mostBlocks))
-      (λ some. stops-once (p.refused some) (q.refused some))
-      (is-or-not closed.refusal 0)
+      ⊎_elim (λ few. goes_once r closed.held name at blocks (p.goes z few) (q.goes z few)) (λ many. stops_once (p.many z many) (q.many z many))
+      (below_or_not blocks most_blocks))
+      (λ some. stops_once (p.refused some) (q.refused some))
+      (is_or_not closed.refusal 0)
 
-pub one-open-next : Once Open-next.ps Open-next.r open-next-says.Post (λ κs x y e f. said x e.1.1.1.1.1.1.0.now ≡ said y f.1.1.1.1.1.1.0.now)
-one-open-next κs a x y e f p q = opens-once a.1.1.1.1.0 x y _ _ a.1.0 a.1.1.0 a.1.1.1.0 a.1.1.1.1.1.0 a.0.blocks p q
+pub one_open_next : Once Open-next.ps Open-next.r open-next-says.Post (λ κs x y e f. said x e.1.1.1.1.1.1.0.now ≡ said y f.1.1.1.1.1.1.0.now)
+one_open_next κs a x y e f p q = opens_once a.1.1.1.1.0 x y _ _ a.1.0 a.1.1.0 a.1.1.1.0 a.1.1.1.1.1.0 a.0.blocks p q
 
 module _ (line : ℕ) (x y : Turn) (ordinates' ordinates'' : List ℕ) where
   -- the ordinates too, where the deck is accepted
@@ -87,9 +87,9 @@ module _ (line : ℕ) (x y : Turn) (ordinates' ordinates'' : List ℕ) where
   refused-once : {number : ℕ} → Stops number line x → Stops number line y → Same
   refused-once p q = (p.ended ∙ sym q.ended, p.worked ∙ sym q.worked, λ h. absurd (true≢false (sym (ap (λ (w : Worked). w.refused) p.worked) ∙ h)))
 
-  ends-once : (nq : ℕ) (closed : Finished) (blocks named : ℕ) (work ordinates : List ℕ) → EndsDeck nq line closed blocks named x work ordinates ordinates'
+  ends_once : (nq : ℕ) (closed : Finished) (blocks named : ℕ) (work ordinates : List ℕ) → EndsDeck nq line closed blocks named x work ordinates ordinates'
       → EndsDeck nq line closed blocks named y work ordinates ordinates'' → Same
-  ends-once nq closed blocks named work ordinates p q =
+  ends_once nq closed blocks named work ordinates p q =
       ⊎_elim
       (λ z.
       ⊎_elim
@@ -97,12 +97,12 @@ module _ (line : ℕ) (x y : Turn) (ordinates' ordinates'' : List ℕ) where
       let d = p.done z one in
       let g = q.done z one in (d.0 ∙ sym g.0, d.1 ∙ sym g.1, λ h. d.2 ∙ sym g.2))
       (λ other. refused-once (p.not-one z other) (q.not-one z other))
-      (is-or-not closed.held.depth 1))
+      (is_or_not closed.held.depth 1))
       (λ some. refused-once (p.refused some) (q.refused some))
-      (is-or-not closed.refusal 0)
+      (is_or_not closed.refusal 0)
 
-pub one-end-deck : Once end-deck.ps end-deck.r end-deck-says.Post
+pub one_end-deck : Once end-deck.ps end-deck.r end-deck-says.Post
     (λ κs x y e f.
     (x.ended ≡ y.ended) × (x.worked ≡ y.worked) × (x.worked.refused ≡ false → e.1.1.1.1.1.1.0.now ≡ f.1.1.1.1.1.1.0.now))
-one-end-deck κs a x y e f p q =
-    ends-once a.1.1.0 x y _ _ a.1.0 a.1.1.1.0 a.0.blocks a.1.1.1.1.0 a.1.1.1.1.1.0.now a.1.1.1.1.1.1.0.now p q
+one_end-deck κs a x y e f p q =
+    ends_once a.1.1.0 x y _ _ a.1.0 a.1.1.1.0 a.0.blocks a.1.1.1.1.0 a.1.1.1.1.1.0.now a.1.1.1.1.1.1.0.now p q

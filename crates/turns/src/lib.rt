@@ -1,12 +1,12 @@
 // The turns of the walk: where it begins, the deck refused or worked, the next block opened.
 ghost use Rattle.std.specs.Prelude.{◌≡◌, true, ◌-◌, ◌*◌, ◌≤◌, length};
 ghost use Rattle.sequences.specs.Parts.{part};
-ghost use Rattle.meaning.specs.Records.{table, mostOrdinates};
-ghost use Rattle.meaning.specs.Run.{mostBlocks};
+ghost use Rattle.meaning.specs.Records.{table, most_ordinates};
+ghost use Rattle.meaning.specs.Run.{most_blocks};
 ghost use Rattle.records.specs.Rows.{words_of};
 ghost use Rattle.stack.specs.View.{Fits};
 ghost use Rattle.placing.specs.Readings.{Ready};
-ghost use Rattle.turns.specs.Turns.{StateBegins, Stops, GoesOn, workedWell, copiedLast, OpensNext, EndsDeck};
+ghost use Rattle.turns.specs.Turns.{StateBegins, Stops, GoesOn, worked_well, copied_last, OpensNext, EndsDeck};
 
 use blocks::Name;
 use placing::Reading;
@@ -91,7 +91,7 @@ fn go_on(
     blocks: usize,
     cards: &mut [u64],
 ) -> Turn
-    requires { (name.letters ≤ 6) × (blocks ≤ mostBlocks) × Ready r cards.old }
+    requires { (name.letters ≤ 6) × (blocks ≤ most_blocks) × Ready r cards.old }
     ensures { GoesOn r held name at line blocks result cards.new }
 {
     Turn {
@@ -115,7 +115,7 @@ fn go_on(
 
 // All blocks of the deck are closed, and one is held.
 fn finish(s: State, nq: usize, blocks: usize) -> Turn
-    ensures { (result.ended ≡ true) × (result.worked ≡ workedWell nq blocks) }
+    ensures { (result.ended ≡ true) × (result.worked ≡ worked_well nq blocks) }
 {
     Turn {
         ended: true,
@@ -133,7 +133,7 @@ fn finish(s: State, nq: usize, blocks: usize) -> Turn
 // The hydrograph held last, in front of the ordinates, if no block was named.
 fn copy_if_last(ordinates: &mut [u64], work: &[u64], held: Stack, nq: usize, named: usize)
     requires { (1 ≤ held.depth) × Fits held.depth nq (length work.now) }
-    ensures { ordinates.new ≡ copiedLast named nq (part (mostOrdinates * (held.depth - 1)) nq work.now) ordinates.old }
+    ensures { ordinates.new ≡ copied_last named nq (part (most_ordinates * (held.depth - 1)) nq work.now) ordinates.old }
 {
     if named != 0 {
         return;

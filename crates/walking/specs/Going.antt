@@ -4,22 +4,22 @@
 use Rattle.std.specs.Prelude.{ℕ, ◌+◌, ◌-◌, ◌*◌, ◌≤◌, ◌<◌, ◌≡◌, Bool, true, false, List, [], ◌∷◌, ◌++◌, length, drop, get_or, replicate}
 use Rattle.sequences.specs.Parts.{part}
 use Rattle.meaning.specs.Lines.{lines_of}
-use Rattle.meaning.specs.Blocks.{Time, orWhole, ratioAt, Block}
-use Rattle.meaning.specs.Results.{Result, recordSize}
+use Rattle.meaning.specs.Blocks.{Time, or_whole, ratio_at, Block}
+use Rattle.meaning.specs.Results.{Result, record_size}
 use Rattle.meaning.specs.Run as run
-use Rattle.meaning.specs.Run.{Stopped, Done, Run, Standing, Only, walk, workedUnder, namedFlow, mostBlocks}
-use Rattle.meaning.specs.Records.{mostOrdinates}
+use Rattle.meaning.specs.Run.{Stopped, Done, Run, Standing, Only, walk, worked_under, named_flow, most_blocks}
+use Rattle.meaning.specs.Records.{most_ordinates}
 use Rattle.limits.specs.Within.{ReadingWithin}
-use Rattle.results.specs.Records.{Named, Each, recordsIn}
+use Rattle.results.specs.Records.{Named, Each, records_in}
 use Rattle.placing.specs.declared.Phase.{Phase}
 use Rattle.placing.specs.declared.Phase.TheVariants as phase
 use Rattle.placing.specs.declared.Reading.{Reading}
-use Rattle.blocks.specs.Meant.{ratiosIs, timeIs, timeUnder}
-use Rattle.placing.specs.Readings.{readingIs, Ready, blockIs}
+use Rattle.blocks.specs.Meant.{ratios_is, time_is, time_under}
+use Rattle.placing.specs.Readings.{reading_is, Ready, block_is}
 use Rattle.stack.specs.declared.Stack.{Stack}
 use Rattle.stack.specs.View.{view}
 use Rattle.telling.specs.declared.Closed.{Closed}
-use Rattle.writing.specs.WrittenResult.{recordTold, recordPut, copiedNamed}
+use Rattle.writing.specs.WrittenResult.{record_told, record_put, copied_named}
 use Rattle.closing.specs.ClosedBlock.{Closes}
 use Rattle.closing.specs.BetweenBlocks.{Carried, HeldAfter}
 use Rattle.turns.specs.declared.Finished.{Finished}
@@ -27,31 +27,31 @@ use Rattle.turns.specs.declared.State.{State}
 use Rattle.turns.specs.declared.Worked.{Worked}
 use Rattle.turns.specs.declared.Turn.{Turn}
 use Rattle.walking.specs.declared.Walked.{Walked}
-use Rattle.passes.specs.Apart.{countFrom, ratioCount}
-use Rattle.passes.specs.One.{timeAt}
+use Rattle.passes.specs.Apart.{count_from, ratio_count}
+use Rattle.passes.specs.One.{time_at}
 use Rattle.walking.specs.OneRun.{alone, standing}
 
 -- how many blocks were opened, for each phase, with so many results and so many held
 abbrev pub CountBy : Phase → (blocks results depth : ℕ) → Type 0
 CountBy phase.BeforeTime blocks results depth = (blocks ≡ 0) × (results ≡ 0) × (depth ≡ 0)
 CountBy phase.BeforeBlocks blocks results depth = (blocks ≡ 0) × (results ≡ 0) × (depth ≡ 0)
-CountBy phase.InBlock blocks results depth = (blocks ≡ results + 1) × (blocks ≤ mostBlocks)
+CountBy phase.InBlock blocks results depth = (blocks ≡ results + 1) × (blocks ≤ most_blocks)
 
 -- how many ratios the deck has, by where the walk stands: it is still to be found before the first block, and those listed in one
 abbrev pub RatiosBy : Phase → List (List ℕ) → run.Reading → (listed : List ℕ) → (ratios : ℕ) → Type 0
-RatiosBy phase.BeforeTime lines r listed ratios = (countFrom lines r ≡ ratios) × (listed ≡ [])
-RatiosBy phase.BeforeBlocks lines r listed ratios = (countFrom lines r ≡ ratios) × (listed ≡ [])
-RatiosBy phase.InBlock lines r listed ratios = length (orWhole listed) ≡ ratios
+RatiosBy phase.BeforeTime lines r listed ratios = (count_from lines r ≡ ratios) × (listed ≡ [])
+RatiosBy phase.BeforeBlocks lines r listed ratios = (count_from lines r ≡ ratios) × (listed ≡ [])
+RatiosBy phase.InBlock lines r listed ratios = length (or_whole listed) ≡ ratios
 
 -- where the walk stands, with its results so far
 abbrev pub run_of : ℕ → Reading → Stack → List Result → List ℕ → Run
-run_of place r held rs work = alone (timeAt place (timeIs r.time)) (view held r.time.ordinates work) rs
+run_of place r held rs work = alone (time_at place (time_is r.time)) (view held r.time.ordinates work) rs
 
-abbrev pub listedIn : State → List ℕ
-listedIn s = ratiosIs s.reading.time.ratios
+abbrev pub listed_in : State → List ℕ
+listed_in s = ratios_is s.reading.time.ratios
 
-abbrev pub standsAt : ℕ → State → List Result → List ℕ → Standing
-standsAt place s rs work = standing s.reading.phase s.blocks (run_of place s.reading s.held rs work)
+abbrev pub stands_at : ℕ → State → List Result → List ℕ → Standing
+stands_at place s rs work = standing s.reading.phase s.blocks (run_of place s.reading s.held rs work)
 
 -- n ordinates and m bytes of records are lent; the walk is that under the ratio at a place
 pub record Going (deck : List ℕ) (named place n m : ℕ) (s : State) (work ordinates records cards : List ℕ) : Type 0 where
@@ -60,28 +60,28 @@ pub record Going (deck : List ℕ) (named place n m : ℕ) (s : State) (work ord
   pub up : s.at ≤ length deck
   pub counted : s.line ≤ s.at
   pub ready : Ready s.reading cards
-  pub within : ReadingWithin (readingIs s.reading cards)
+  pub within : ReadingWithin (reading_is s.reading cards)
   pub held : HeldAfter (length results) s.held s.reading.time.ordinates work
   pub count : CountBy s.reading.phase s.blocks (length results) s.held.depth
-  pub carried : Carried named place (timeAt place (timeIs s.reading.time)) n m results ordinates records
-  pub ratios : RatiosBy s.reading.phase (lines_of (drop s.at deck)) (readingIs s.reading cards) (listedIn s) (ratioCount deck)
-  pub walked : walk (Only place) (lines_of (drop s.at deck)) (readingIs s.reading cards) (standsAt place s results work) (s.line + 1) ≡ workedUnder (Only place) deck
+  pub carried : Carried named place (time_at place (time_is s.reading.time)) n m results ordinates records
+  pub ratios : RatiosBy s.reading.phase (lines_of (drop s.at deck)) (reading_is s.reading cards) (listed_in s) (ratio_count deck)
+  pub walked : walk (Only place) (lines_of (drop s.at deck)) (reading_is s.reading cards) (stands_at place s results work) (s.line + 1) ≡ worked_under (Only place) deck
 
 -- An accepted deck: its results, and what was lent says of them; and the ratios that it lists.
 pub record DoneIs (deck : List ℕ) (named place n m : ℕ) (listed : List ℕ) (nq blocks : ℕ) (ordinates records : List ℕ) : Type 0 where
   pub time : Time
   pub results : List Result
-  pub done : workedUnder (Only place) deck ≡ Done time (results ∷ [])
+  pub done : worked_under (Only place) deck ≡ Done time (results ∷ [])
   pub listed-are : time.listed ≡ listed
   pub ordinates-are : time.ordinates ≡ nq
   pub blocks-are : length results ≡ blocks
-  pub few : blocks ≤ mostBlocks
+  pub few : blocks ≤ most_blocks
   pub names : Each Named results
-  pub told : recordSize * length results ≤ m → records ≡ recordsIn (ratioAt place time) (place + 1) m results
-  pub flow : named ≤ length results → nq ≤ n → ordinates ≡ namedFlow named results ++ replicate (n - nq) 0
+  pub told : record_size * length results ≤ m → records ≡ records_in (ratio_at place time) (place + 1) m results
+  pub flow : named ≤ length results → nq ≤ n → ordinates ≡ named_flow named results ++ replicate (n - nq) 0
 
 abbrev pub WorkedBy : Bool → List ℕ → (named place n m : ℕ) → (listed : List ℕ) → (number line nq blocks : ℕ) → (ordinates records : List ℕ) → Type 0
-WorkedBy true deck named place n m listed number line nq blocks ordinates records = workedUnder (Only place) deck ≡ Stopped number line
+WorkedBy true deck named place n m listed number line nq blocks ordinates records = worked_under (Only place) deck ≡ Stopped number line
 WorkedBy false deck named place n m listed number line nq blocks ordinates records = DoneIs deck named place n m listed nq blocks ordinates records
 
 abbrev pub WorkedIs : List ℕ → (named place n m : ℕ) → (listed : List ℕ) → Worked → (ordinates records : List ℕ) → Type 0
@@ -90,7 +90,7 @@ WorkedIs deck named place n m listed w ordinates records = WorkedBy w.refused de
 -- A turn from a state: the deck is worked, and the state has its ratios; or the run goes on further behind.
 abbrev pub TurnBy : Bool → List ℕ → (named place n m : ℕ) → (from next : State) → Worked → (work ordinates records cards : List ℕ) → Type 0
 TurnBy true deck named place n m from next w work ordinates records cards =
-    WorkedIs deck named place n m (listedIn from) w ordinates records × (length (orWhole (listedIn from)) ≡ ratioCount deck)
+    WorkedIs deck named place n m (listed_in from) w ordinates records × (length (or_whole (listed_in from)) ≡ ratio_count deck)
 TurnBy false deck named place n m from next w work ordinates records cards = Going deck named place n m next work ordinates records cards × (from.at < next.at)
 
 abbrev pub TurnIs : List ℕ → (named place n m : ℕ) → State → Turn → (work ordinates records cards : List ℕ) → Type 0
@@ -98,14 +98,14 @@ TurnIs deck named place n m from t work ordinates records cards = TurnBy t.ended
 
 -- A deck walked: what it came to, and the ratios in force where it did.
 pub record WalkedIs (deck : List ℕ) (named place n m : ℕ) (w : Walked) (ordinates records : List ℕ) : Type 0 where
-  pub worked : WorkedIs deck named place n m (ratiosIs w.ratios) w.worked ordinates records
-  pub ratios : length (orWhole (ratiosIs w.ratios)) ≡ ratioCount deck
+  pub worked : WorkedIs deck named place n m (ratios_is w.ratios) w.worked ordinates records
+  pub ratios : length (or_whole (ratios_is w.ratios)) ≡ ratio_count deck
   pub few-ratios : w.ratios.count ≤ 9
 
 -- the reading with the ratio at a place in force
-abbrev pub readingUnder : ℕ → Reading → Reading
-readingUnder place r =
-    record { phase = r.phase; free = r.free; time = timeUnder (get_or (ratiosIs r.time.ratios) place 100) r.time; name = r.name }
+abbrev pub reading_under : ℕ → Reading → Reading
+reading_under place r =
+    record { phase = r.phase; free = r.free; time = time_under (get_or (ratios_is r.time.ratios) place 100) r.time; name = r.name }
 
 -- A block finished: closed, and, if it was not refused, its result written under the ratio at a place, counted from 0.
 pub record Finishes (τ : Time) (b : Block) (s : Stack) (named place k : ℕ) (x : Finished) (work work' ordinates ordinates' records records' : List ℕ) : Type 0 where
@@ -113,8 +113,8 @@ pub record Finishes (τ : Time) (b : Block) (s : Stack) (named place k : ℕ) (x
   pub closes : Closes τ b s work closed work'
   pub number : x.refusal ≡ closed.refusal
   pub held : x.held ≡ closed.held
-  pub copied : x.refusal ≡ 0 → ordinates' ≡ copiedNamed named k τ.ordinates (part (mostOrdinates * (closed.held.depth - 1)) τ.ordinates work') ordinates
-  pub written : x.refusal ≡ 0 → records' ≡ recordPut k (recordTold b.name τ.ratio (place + 1) closed) records
+  pub copied : x.refusal ≡ 0 → ordinates' ≡ copied_named named k τ.ordinates (part (most_ordinates * (closed.held.depth - 1)) τ.ordinates work') ordinates
+  pub written : x.refusal ≡ 0 → records' ≡ record_put k (record_told b.name τ.ratio (place + 1) closed) records
 
 -- where a block closes, by the phase: the open block is finished; else nothing was open
 abbrev pub ClosedBy : Phase → Reading → Stack → (blocks named place : ℕ) → Finished → (work work' ordinates ordinates' records records' cards : List ℕ) → Type 0
@@ -123,25 +123,25 @@ ClosedBy phase.BeforeTime r held blocks named place x work work' ordinates ordin
 ClosedBy phase.BeforeBlocks r held blocks named place x work work' ordinates ordinates' records records' cards =
     (x.refusal ≡ 0) × (x.held ≡ held) × (work' ≡ work) × (ordinates' ≡ ordinates) × (records' ≡ records)
 ClosedBy phase.InBlock r held blocks named place x work work' ordinates ordinates' records records' cards =
-    Finishes (timeIs r.time) (blockIs r cards) held named place (blocks - 1) x work work' ordinates ordinates' records records'
+    Finishes (time_is r.time) (block_is r cards) held named place (blocks - 1) x work work' ordinates ordinates' records records'
 
 -- what is asked of an open block before which k were closed, and of the place of the ratio
 pub record MayFinish (r : Reading) (s : Stack) (k ratio : ℕ) (work cards : List ℕ) : Type 0 where
   pub ready : Ready r cards
   pub place : r.phase ≡ phase.InBlock
-  pub within : ReadingWithin (readingIs r cards)
+  pub within : ReadingWithin (reading_is r cards)
   pub held : HeldAfter k s r.time.ordinates work
   pub few : k ≤ 199
   pub few-ratios : ratio ≤ 9
 
 -- by another count of the blocks before, if it is the same
-pub held-as : {s : Stack} {nq : ℕ} {w : List ℕ} (k before : ℕ) → k ≡ before → HeldAfter before s nq w → HeldAfter k s nq w
-held-as k before e h = rw e h
+pub held_as : {s : Stack} {nq : ℕ} {w : List ℕ} (k before : ℕ) → k ≡ before → HeldAfter before s nq w → HeldAfter k s nq w
+held_as k before e h = rw e h
 
 -- and where one may be open: so many were closed before
 pub record MayClose (r : Reading) (s : Stack) (blocks ratio : ℕ) (work cards : List ℕ) : Type 0 where
   pub ready : Ready r cards
-  pub within : ReadingWithin (readingIs r cards)
+  pub within : ReadingWithin (reading_is r cards)
   pub before : ℕ
   pub held : HeldAfter before s r.time.ordinates work
   pub count : CountBy r.phase blocks before s.depth

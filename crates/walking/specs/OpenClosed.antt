@@ -1,5 +1,5 @@
 -- The block that was open, closed: the refusal that the definitions ask for, and what the run then has.
---     closed-number    the refusal
+--     closed_number    the refusal
 --     ClosedWell       where there is none: what is held and the results are those of the definitions, and what was lent holds them
 use Rattle.std.specs.Prelude.{ℕ, ◌+◌, ◌-◌, ◌≡◌, List, [], ◌∷◌, ◌++◌, get_or}
 use Rattle.std.proofs.Math.Path.{refl, sym}
@@ -8,77 +8,77 @@ use native.Mathlib.Omega.{arith}
 use Rattle.std.proofs.Math.ListN.{length, length-append}
 use Rattle.meaning.specs.Results.{Result}
 use Rattle.meaning.specs.Run as run
-use Rattle.meaning.specs.Run.{Run, withResult, openRefusal}
+use Rattle.meaning.specs.Run.{Run, with_result, open_refusal}
 use Rattle.limits.specs.Within.{ReadingWithin}
 use Rattle.fields.specs.Spans.{form_of}
 use Rattle.placing.specs.declared.Phase.{Phase}
 use Rattle.placing.specs.declared.Phase.TheVariants as phase
 use Rattle.placing.specs.declared.Reading.{Reading}
-use Rattle.blocks.specs.Meant.{ratiosIs, timeIs}
-use Rattle.placing.specs.Readings.{readingIs, readingBy, blockIs}
-use Rattle.placing.specs.Labels.{name-short}
+use Rattle.blocks.specs.Meant.{ratios_is, time_is}
+use Rattle.placing.specs.Readings.{reading_is, reading_by, block_is}
+use Rattle.placing.specs.Labels.{name_short}
 use Rattle.stack.specs.declared.Stack.{Stack}
 use Rattle.stack.specs.View.{view}
 use Rattle.turns.specs.declared.Finished.{Finished}
-use Rattle.closing.specs.ToldResult.{result_of, told-number}
-use Rattle.closing.specs.BetweenBlocks.{Carried, carried-more, HeldAfter, held_more}
-use Rattle.passes.specs.One.{one-refusal}
-use Rattle.walking.specs.OneRun.{standing, closedRun}
-use Rattle.walking.specs.Going.{CountBy, run_of, readingUnder, Finishes, ClosedBy}
+use Rattle.closing.specs.ToldResult.{result_of, told_number}
+use Rattle.closing.specs.BetweenBlocks.{Carried, carried_more, HeldAfter, held_more}
+use Rattle.passes.specs.One.{one_refusal}
+use Rattle.walking.specs.OneRun.{standing, closed_run}
+use Rattle.walking.specs.Going.{CountBy, run_of, reading_under, Finishes, ClosedBy}
 
 pub record ClosedWell (named place n m : ℕ) (q : run.Reading) (was : Run) (nq : ℕ) (x : Finished) (work ordinates records : List ℕ) : Type 0 where
-  pub held-is : view x.held nq work ≡ (closedRun q was).held
-  pub held : HeldAfter (length (closedRun q was).results) x.held nq work
-  pub carried : Carried named place was.time n m (closedRun q was).results ordinates records
+  pub held-is : view x.held nq work ≡ (closed_run q was).held
+  pub held : HeldAfter (length (closed_run q was).results) x.held nq work
+  pub carried : Carried named place was.time n m (closed_run q was).results ordinates records
 
 module _ (named place n m : ℕ) (r : Reading) (h : Stack) (blocks : ℕ) (x : Finished) (work work' ordinates ordinates' records records' cards : List ℕ) (rs : List Result) where
   abbrev reading : Phase → run.Reading
-  reading p = readingBy p (timeIs r.time) (form_of r.free) (blockIs r cards)
+  reading p = reading_by p (time_is r.time) (form_of r.free) (block_is r cards)
 
   -- under the ratio, and the run that the block is closed in
   abbrev here : Reading
-  here = readingUnder place r
+  here = reading_under place r
 
   abbrev was : Run
   was = run_of place r h rs work
 
-  number_by : (p : Phase) → ClosedBy p here h blocks named place x work work' ordinates ordinates' records records' cards → x.refusal ≡ openRefusal (reading p) (standing p blocks was)
+  number_by : (p : Phase) → ClosedBy p here h blocks named place x work work' ordinates ordinates' records records' cards → x.refusal ≡ open_refusal (reading p) (standing p blocks was)
   number_by phase.BeforeTime c = c.0
   number_by phase.BeforeBlocks c = c.0
   number_by phase.InBlock c =
-      c.number ∙ told-number c.closes
-      ∙ sym (one-refusal (get_or (ratiosIs r.time.ratios) place 100) (timeIs r.time) (form_of r.free) (blockIs r cards) blocks (view h r.time.ordinates work) rs)
+      c.number ∙ told_number c.closes
+      ∙ sym (one_refusal (get_or (ratios_is r.time.ratios) place 100) (time_is r.time) (form_of r.free) (block_is r cards) blocks (view h r.time.ordinates work) rs)
 
-  pub closed-number : ClosedBy r.phase here h blocks named place x work work' ordinates ordinates' records records' cards
-      → x.refusal ≡ openRefusal (readingIs r cards) (standing r.phase blocks was)
-  closed-number c = number_by r.phase c
+  pub closed_number : ClosedBy r.phase here h blocks named place x work work' ordinates ordinates' records records' cards
+      → x.refusal ≡ open_refusal (reading_is r cards) (standing r.phase blocks was)
+  closed_number c = number_by r.phase c
 
   module _ (held : HeldAfter (length rs) h r.time.ordinates work) (carried : Carried named place was.time n m rs ordinates records) (lw : length work' ≡ length work)
       (lo : length ordinates' ≡ length ordinates) (lr : length records' ≡ length records) (none : x.refusal ≡ 0) where
-    idle : (q : run.Reading) → closedRun q was ≡ was → (x.refusal ≡ 0) × (x.held ≡ h) × (work' ≡ work) × (ordinates' ≡ ordinates) × (records' ≡ records)
+    idle : (q : run.Reading) → closed_run q was ≡ was → (x.refusal ≡ 0) × (x.held ≡ h) × (work' ≡ work) × (ordinates' ≡ ordinates) × (records' ≡ records)
         → ClosedWell named place n m q was r.time.ordinates x work' ordinates' records'
     idle q e c = record { held-is = rw (e, c.1, c.2); held = rw (e, c.1, c.2) held; carried = rw (e, c.3, c.4) carried }
 
-    well-by : (p : Phase) → ReadingWithin (reading p) → CountBy p blocks (length rs) h.depth
+    well_by : (p : Phase) → ReadingWithin (reading p) → CountBy p blocks (length rs) h.depth
         → ClosedBy p here h blocks named place x work work' ordinates ordinates' records records' cards
         → ClosedWell named place n m (reading p) was r.time.ordinates x work' ordinates' records'
-    unfolding withResult
-    well-by phase.BeforeTime w k c = idle (reading phase.BeforeTime) refl c
-    well-by phase.BeforeBlocks w k c = idle (reading phase.BeforeBlocks) refl c
-    well-by phase.InBlock w k c =
-        let b = blockIs r cards in
+    unfolding with_result
+    well_by phase.BeforeTime w k c = idle (reading phase.BeforeTime) refl c
+    well_by phase.BeforeBlocks w k c = idle (reading phase.BeforeBlocks) refl c
+    well_by phase.InBlock w k c =
+        let b = block_is r cards in
         let count : blocks - 1 ≡ length rs = omega arith in
-        let f : Finishes (timeIs here.time) b h named place (length rs) x work work' ordinates ordinates' records records' = rw count at c in
+        let f : Finishes (time_is here.time) b h named place (length rs) x work work' ordinates ordinates' records records' = rw count at c in
         let sound = sym f.number ∙ none in
         let keeps = f.closes.keeps sound in
-        let long : length (rs ++ (result_of (timeIs here.time) b h work ∷ [])) ≡ length rs + 1 = length-append rs (result_of (timeIs here.time) b h work ∷ []) in
+        let long : length (rs ++ (result_of (time_is here.time) b h work ∷ [])) ≡ length rs + 1 = length-append rs (result_of (time_is here.time) b h work ∷ []) in
         record {
           held-is = rw f.held keeps.held;
-          held = rw (f.held, long) (held_more (timeIs here.time) b (length rs) h f.closed.held work work' held lw keeps);
-          carried = carried-more rs f.closes sound (name-short b.name w.1.name) (f.copied none) (f.written none) lo lr carried;
+          held = rw (f.held, long) (held_more (time_is here.time) b (length rs) h f.closed.held work work' held lw keeps);
+          carried = carried_more rs f.closes sound (name_short b.name w.1.name) (f.copied none) (f.written none) lo lr carried;
         }
 
-    pub closed-well : ReadingWithin (readingIs r cards) → CountBy r.phase blocks (length rs) h.depth
+    pub closed_well : ReadingWithin (reading_is r cards) → CountBy r.phase blocks (length rs) h.depth
         → ClosedBy r.phase here h blocks named place x work work' ordinates ordinates' records records' cards
-        → ClosedWell named place n m (readingIs r cards) was r.time.ordinates x work' ordinates' records'
-    closed-well w k c = well-by r.phase w k c
+        → ClosedWell named place n m (reading_is r cards) was r.time.ordinates x work' ordinates' records'
+    closed_well w k c = well_by r.phase w k c

@@ -1,11 +1,11 @@
 // The walk over a deck: its blocks read one after the other, each closed as the next is opened, and what comes of them.
 ghost use Rattle.std.specs.Prelude.{◌≡◌, ◌≤◌, length, replicate};
 ghost use Rattle.meaning.specs.Records.{table};
-ghost use Rattle.meaning.specs.Run.{workSize};
+ghost use Rattle.meaning.specs.Run.{work_size};
 ghost use Rattle.records.specs.Rows.{words_of};
-ghost use Rattle.blocks.specs.Meant.{timeIs};
-ghost use Rattle.placing.specs.Readings.{blockIs};
-ghost use Rattle.walking.specs.Going.{MayFinish, Finishes, MayClose, ClosedBy, Going, readingUnder, TurnIs, WalkedIs};
+ghost use Rattle.blocks.specs.Meant.{time_is};
+ghost use Rattle.placing.specs.Readings.{block_is};
+ghost use Rattle.walking.specs.Going.{MayFinish, Finishes, MayClose, ClosedBy, Going, reading_under, TurnIs, WalkedIs};
 
 use blocks::Ratios;
 use placing::{Phase, Reading};
@@ -26,7 +26,7 @@ fn finish_block(
     cards: &[u64],
 ) -> Finished
     requires { MayFinish r held k asked.place work.old cards.now }
-    ensures { Finishes (timeIs r.time) (blockIs r cards.now) held asked.named asked.place k result work.old work.new ordinates.old ordinates.new records.old records.new }
+    ensures { Finishes (time_is r.time) (block_is r cards.now) held asked.named asked.place k result work.old work.new ordinates.old ordinates.new records.old records.new }
 {
     let closed = closing::close_block(work, held, r.time, cards);
     let next = closed.held;
@@ -78,7 +78,7 @@ fn close_open(
 // The reading with the ratio at that place in force.
 fn read_under(r: Reading, place: usize) -> Reading
     requires { r.time.ratios.count ≤ 9 }
-    ensures { result ≡ readingUnder place r }
+    ensures { result ≡ reading_under place r }
 {
     let phase = r.phase;
     let name = r.name;
@@ -165,7 +165,7 @@ pub fn walk_deck(
     records: &mut [u8],
     cards: &mut [u64],
 ) -> Walked
-    requires work_size_in_bounds { (workSize ≤ length work.old) × (words_of table ≤ length cards.old) }
+    requires work_size_in_bounds { (work_size ≤ length work.old) × (words_of table ≤ length cards.old) }
     requires ordinates_value { (ordinates.old ≡ replicate (length ordinates.old) 0) × (records.old ≡ replicate (length records.old) 0) }
     requires place_bound { place ≤ 9 }
     ensures { WalkedIs deck.now named place (length ordinates.old) (length records.old) result ordinates.new records.new }

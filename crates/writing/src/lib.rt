@@ -1,10 +1,10 @@
 // What is written of a block once it is closed: the record in its place, and the ordinates if it is the block named.
 ghost use Rattle.std.specs.Prelude.{◌≡◌, ◌+◌, ◌-◌, ◌*◌, ◌≤◌, length};
 ghost use Rattle.sequences.specs.Parts.{part};
-ghost use Rattle.meaning.specs.Records.{mostOrdinates};
-ghost use Rattle.blocks.specs.Meant.{nameIs};
+ghost use Rattle.meaning.specs.Records.{most_ordinates};
+ghost use Rattle.blocks.specs.Meant.{name_is};
 ghost use Rattle.stack.specs.View.{Fits};
-ghost use Rattle.writing.specs.WrittenResult.{recordTold, recordPut, copiedFirst, copiedNamed};
+ghost use Rattle.writing.specs.WrittenResult.{record_told, record_put, copied_first, copied_named};
 
 use blocks::{Name, Time};
 use results::Label;
@@ -21,7 +21,7 @@ pub struct Asked {
 // The record of block `k`, counted from 0, where there is room for it: that there is none is found out only at the end.
 fn write_record(records: &mut [u8], k: usize, name: Name, closed: Closed, label: Label)
     requires { (k ≤ 199) × (name.letters ≤ 6) }
-    ensures { records.new ≡ recordPut k (recordTold (nameIs name) label.ratio label.place closed) records.old }
+    ensures { records.new ≡ record_put k (record_told (name_is name) label.ratio label.place closed) records.old }
 {
     if records.len() < results::RECORD * k + results::RECORD {
         return;
@@ -43,7 +43,7 @@ fn write_record(records: &mut [u8], k: usize, name: Name, closed: Closed, label:
 // The hydrograph held last, in front of the ordinates, where there is room for it.
 pub fn copy_last(ordinates: &mut [u64], work: &[u64], held: Stack, nq: usize)
     requires { (1 ≤ held.depth) × Fits held.depth nq (length work.now) }
-    ensures { ordinates.new ≡ copiedFirst nq (part (mostOrdinates * (held.depth - 1)) nq work.now) ordinates.old }
+    ensures { ordinates.new ≡ copied_first nq (part (most_ordinates * (held.depth - 1)) nq work.now) ordinates.old }
 {
     if ordinates.len() < nq {
         return;
@@ -56,7 +56,7 @@ pub fn copy_last(ordinates: &mut [u64], work: &[u64], held: Stack, nq: usize)
 fn copy_named(ordinates: &mut [u64], work: &[u64], held: Stack, nq: usize, named: usize, k: usize)
     requires k_bound { k ≤ 199 }
     requires le_depth { (1 ≤ held.depth) × Fits held.depth nq (length work.now) }
-    ensures { ordinates.new ≡ copiedNamed named k nq (part (mostOrdinates * (held.depth - 1)) nq work.now) ordinates.old }
+    ensures { ordinates.new ≡ copied_named named k nq (part (most_ordinates * (held.depth - 1)) nq work.now) ordinates.old }
 {
     if named != k + 1 {
         return;
@@ -88,8 +88,8 @@ pub fn write_result(
 )
     requires k_bound { (k ≤ 199) × (name.letters ≤ 6) × (asked.place ≤ 9) }
     requires le_depth { (1 ≤ closed.held.depth) × Fits closed.held.depth time.ordinates (length work.now) }
-    ensures copied { ordinates.new ≡ copiedNamed asked.named k time.ordinates (part (mostOrdinates * (closed.held.depth - 1)) time.ordinates work.now) ordinates.old }
-    ensures written { records.new ≡ recordPut k (recordTold (nameIs name) time.ratio (asked.place + 1) closed) records.old }
+    ensures copied { ordinates.new ≡ copied_named asked.named k time.ordinates (part (most_ordinates * (closed.held.depth - 1)) time.ordinates work.now) ordinates.old }
+    ensures written { records.new ≡ record_put k (record_told (name_is name) time.ratio (asked.place + 1) closed) records.old }
 {
     write_record(records, k, name, closed, label_of(time, asked.place));
     let held = closed.held;

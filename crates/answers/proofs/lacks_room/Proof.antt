@@ -4,7 +4,7 @@ use native.Mathlib.Nat.{mul-le-mul}
 use native.Mathlib.Omega.{arith}
 use borrow.Author.Tests.{lt-ltb, le-ltb}
 use borrow.Author.Rules.{rules}
-use Rattle.meaning.specs.Run.{recordBytes}
+use Rattle.meaning.specs.Run.{record_bytes}
 use Rattle.answers.proofs.lacks_room.Statement.{statement}
 use Rattle.answers.proofs.lacks_room.Tie as tie
 
@@ -21,8 +21,8 @@ returns-2 c =
     let first = c.before.if1.false in
     let second = c.if2.true in
     let enough : x.nq ≤ x.ordinates = omega arith in
-    let few : x.records < recordBytes x.blocks x.ratios = omega arith in
-    rw (le-ltb x.ordinates x.nq enough, lt-ltb x.records (recordBytes x.blocks x.ratios) few)
+    let few : x.records < record_bytes x.blocks x.ratios = omega arith in
+    rw (le-ltb x.ordinates x.nq enough, lt-ltb x.records (record_bytes x.blocks x.ratios) few)
 
 returns-3 : tie.Need-returns-3
 returns-3 c =
@@ -31,9 +31,9 @@ returns-3 c =
     let second = c.before.if2.false in
     let third = c.if3.true in
     let enough : x.nq ≤ x.ordinates = omega arith in
-    let all : recordBytes x.blocks x.ratios ≤ x.records = omega arith in
+    let all : record_bytes x.blocks x.ratios ≤ x.records = omega arith in
     let above : x.blocks < x.named = omega arith in
-    rw (le-ltb x.ordinates x.nq enough, le-ltb x.records (recordBytes x.blocks x.ratios) all, lt-ltb x.blocks x.named above)
+    rw (le-ltb x.ordinates x.nq enough, le-ltb x.records (record_bytes x.blocks x.ratios) all, lt-ltb x.blocks x.named above)
 
 returns-4 : tie.Need-returns-4
 returns-4 c =
@@ -42,9 +42,9 @@ returns-4 c =
     let second = c.before.if2.false in
     let third = c.if3.false in
     let enough : x.nq ≤ x.ordinates = omega arith in
-    let all : recordBytes x.blocks x.ratios ≤ x.records = omega arith in
+    let all : record_bytes x.blocks x.ratios ≤ x.records = omega arith in
     let known : x.named ≤ x.blocks = omega arith in
-    rw (le-ltb x.ordinates x.nq enough, le-ltb x.records (recordBytes x.blocks x.ratios) all, le-ltb x.blocks x.named known)
+    rw (le-ltb x.ordinates x.nq enough, le-ltb x.records (record_bytes x.blocks x.ratios) all, le-ltb x.blocks x.named known)
 
 -- a record a block and ratio: 200 blocks and nine ratios at most
 mul-if2 : tie.Need-overflow-mul-if2

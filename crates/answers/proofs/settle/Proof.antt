@@ -2,7 +2,7 @@
 use mathlib.Core.Path.{sym, ◌∙◌}
 use borrow.Author.Rules.{rules}
 use Rattle.sequences.specs.Choices.{taken, passed}
-use Rattle.answers.specs.Answers.{zeros-accept}
+use Rattle.answers.specs.Answers.{zeros_accept}
 use Rattle.answers.proofs.settle.Statement.{statement}
 use Rattle.answers.proofs.settle.Tie as tie
 
@@ -16,7 +16,7 @@ returns-2 c =
     let test = c.before.before.before.before in
     let x = test.before.before.before.before.before.args in
     passed _ (sym test.before.lacks-room.ensures ∙ test.if1.false)
-    (zeros-accept x.nq x.blocks x.ratios x.work.now _ x.ordinates.now x.records.now c.before.before.zero-words.ensures)
+    (zeros_accept x.nq x.blocks x.ratios x.work.now _ x.ordinates.now x.records.now c.before.before.zero-words.ensures)
 
 pub settle-spec : {M : Type 1} → statement M
 settle-spec =

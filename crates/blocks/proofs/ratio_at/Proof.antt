@@ -6,7 +6,7 @@ use native.Mathlib.Omega.{arith}
 use lib.ListN.{length, take, get_or, get_or-eq_default, length-take}
 use lib.Seq.{get_or-take}
 use borrow.Author.Rules.{rules}
-use Rattle.blocks.specs.Meant.{ratiosIs}
+use Rattle.blocks.specs.Meant.{ratios_is}
 use Rattle.blocks.proofs.ratio_at.Statement.{statement}
 use Rattle.blocks.proofs.ratio_at.Tie as tie
 
@@ -27,7 +27,7 @@ returns c =
     within x.t1.values x.k 0 100 (omega (arith, nine, listed, c.before.before.requires)) ∙ sym (get_or-take x.t1.count x.t1.values x.k 100 listed)
 
 returns-2 : tie.Need-returns-2
-returns-2 c = let x = c.before.args in sym (get_or-eq_default (ratiosIs x.t1) 100 (past x.t1.count x.k x.t1.values (search rules)))
+returns-2 c = let x = c.before.args in sym (get_or-eq_default (ratios_is x.t1) 100 (past x.t1.count x.k x.t1.values (search rules)))
 
 pub ratio-at-spec : {M : Type 1} → statement M
 ratio-at-spec = tie.close (tie.spec (λ c. search rules) (λ c. search rules) returns returns-2)

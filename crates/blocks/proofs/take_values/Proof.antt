@@ -6,9 +6,9 @@ use native.Mathlib.Omega.{arith}
 use lib.ListN.{length}
 use Rattle.sequences.specs.Parts.{part}
 use Rattle.meaning.specs.Records.{table, row_of}
-use Rattle.records.specs.Rows.{items, words_of, start, roomOf, mostIn, spanIn, next_start, span-by, most-by, most-fits, own-few}
-use Rattle.blocks.specs.Cards.{regionOf}
-use Rattle.blocks.specs.Taking.{region-part, region-fits, region-long, takes}
+use Rattle.records.specs.Rows.{items, words_of, start, room_of, most_in, span_in, next_start, span-by, most-by, most_fits, own_few}
+use Rattle.blocks.specs.Cards.{region_of}
+use Rattle.blocks.specs.Taking.{region_part, region_fits, region_long, takes}
 use borrow.Author.Rules.{rules}
 use Rattle.blocks.proofs.take_values.Statement.{statement}
 use Rattle.blocks.proofs.take_values.Tie as tie
@@ -16,9 +16,9 @@ use Rattle.blocks.proofs.take_values.Tie as tie
 -- where the region stands, and that it is within the words
 record Place (item from to : ℕ) (w : List ℕ) : Type 0 where
   begins : from ≡ start item
-  ends : to ≡ from + suc (roomOf item)
-  wide : to - from ≡ suc (roomOf item)
-  room : to - from - 1 ≡ roomOf item
+  ends : to ≡ from + suc (room_of item)
+  wide : to - from ≡ suc (room_of item)
+  room : to - from - 1 ≡ room_of item
   fits : to ≤ length w
 
 place : (c : tie.After-start-of2)
@@ -26,17 +26,17 @@ place : (c : tie.After-start-of2)
 place c =
     let s = c.before.before.before.before in
     let h = next_start s.args.item (search rules) in
-    let f = region-fits s.args.item s.args.cards.now (search rules) s.requires.1.1.long in
-    let e : c.start-of2.result ≡ c.before.start_of_lem.result + suc (roomOf s.args.item) = omega (arith, c.before.start_of_lem.ensures, c.start-of2.ensures) in
+    let f = region_fits s.args.item s.args.cards.now (search rules) s.requires.1.1.long in
+    let e : c.start-of2.result ≡ c.before.start_of_lem.result + suc (room_of s.args.item) = omega (arith, c.before.start_of_lem.ensures, c.start-of2.ensures) in
     record { begins = c.before.start_of_lem.ensures; ends = e; wide = omega arith; room = omega arith; fits = omega (arith, c.before.start_of_lem.ensures) }
 
-in-region : {item from to : ℕ} {w : List ℕ} → Place item from to w → item < items → words_of table ≤ length w → part from (to - from) w ≡ regionOf item w
-in-region {item} {from} {to} {w} p inside long = rw (p.wide, p.begins) (sym (region-part item w inside long))
+in_region : {item from to : ℕ} {w : List ℕ} → Place item from to w → item < items → words_of table ≤ length w → part from (to - from) w ≡ region_of item w
+in_region {item} {from} {to} {w} p inside long = rw (p.wide, p.begins) (sym (region_part item w inside long))
 
 -- how many values are the record's, and how many it may have
 record Counts (item count nq n most : ℕ) : Type 0 where
-  own : n ≡ spanIn (row_of item) count
-  bound : most ≡ mostIn (row_of item) nq
+  own : n ≡ span_in (row_of item) count
+  bound : most ≡ most_in (row_of item) nq
 
 counts : (c : tie.After-most-by)
     → let x = c.before.before.before.before.before.before.before.args in Counts x.item x.count x.nq c.before.span-by.result c.most-by.result
@@ -71,11 +71,11 @@ take-in-requires c κs =
     let s = c.before.before.before.before.before.before.before.before in
     let x = s.args in
     let k = counts c.before in
-    let q = in-region (place c.before.before.before.before) (search rules) s.requires.1.1.long in
-    let n = own-few x.item x.count (search rules) (search rules) in
-    let fit = most-fits (row_of x.item) x.nq s.requires.1.1.few in (
+    let q = in_region (place c.before.before.before.before) (search rules) s.requires.1.1.long in
+    let n = own_few x.item x.count (search rules) (search rules) in
+    let fit = most_fits (row_of x.item) x.nq s.requires.1.1.few in (
       (omega (arith, n, k.own), omega (arith, n, k.own)),
-      (rw (q, k.bound) (s.requires.1.1.heads x.item), rw (q, k.bound, region-long x.item x.cards.now (search rules) s.requires.1.1.long) (omega arith)),
+      (rw (q, k.bound) (s.requires.1.1.heads x.item), rw (q, k.bound, region_long x.item x.cards.now (search rules) s.requires.1.1.long) (omega arith)),
     )
 
 returns : tie.Need-returns
@@ -84,8 +84,8 @@ returns c =
     let x = s.args in
     let p = place c.before.before.before.before.before.before.before in
     let k = counts c.before.before.before.before in
-    let q = in-region p (search rules) s.requires.1.1.long in
-    let n = own-few x.item x.count (search rules) (search rules) in
+    let q = in_region p (search rules) s.requires.1.1.long in
+    let n = own_few x.item x.count (search rules) (search rules) in
     let t = c.before.before.take_in in
     rw (p.wide, p.begins)
     (takes x.item x.nq x.count x.values.now x.cards.now (search rules) s.requires.1.1 (omega (arith, n)) s.requires.1.0 t.result t.new.0

@@ -1,7 +1,7 @@
 -- The line of an acceptance, or that of a refusal; either has room.
 use native.Mathlib.Omega.{arith}
-use Rattle.cases.specs.Text.{answerLine}
-use Rattle.cases.specs.Fronts.{counts-short, refusal-short}
+use Rattle.cases.specs.Text.{answer_line}
+use Rattle.cases.specs.Fronts.{counts_short, refusal_short}
 use borrow.Author.Rules.{rules}
 use Rattle.cases.proofs.write_answer.Statement.{statement}
 use Rattle.cases.proofs.write_answer.Tie as tie
@@ -10,15 +10,15 @@ returns : tie.Need-returns
 returns c =
     let told = c.before.before.before.before.before.answer.given in
     let written = c.before.before.write-counts.ensures in
-    let fits = counts-short told.0.0 told.0.1.0 told.0.1.1.0 (omega arith) (omega arith) (omega arith) in
+    let fits = counts_short told.0.0 told.0.1.0 told.0.1.1.0 (omega arith) (omega arith) (omega arith) in
     (rw told.1 written, omega (arith, written.place))
 
 returns-2 : tie.Need-returns-2
-unfolding answerLine
+unfolding answer_line
 returns-2 c =
     let told = c.before.before.before.before.before.answer2.given in
     let written = c.before.before.write-refusal.ensures in
-    let fits = refusal-short told.0.0 told.0.1.0 (omega arith) (omega arith) in
+    let fits = refusal_short told.0.0 told.0.1.0 (omega arith) (omega arith) in
     (rw told.1 written, omega (arith, written.place))
 
 pub write-answer-spec : {M : Type 1} → statement M

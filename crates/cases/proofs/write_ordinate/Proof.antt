@@ -2,19 +2,19 @@
 use Prim.Native.Nat.{suc, ◌-◌}
 use mathlib.Core.Path.{◌≡◌}
 use native.Mathlib.Omega.{arith}
-use Rattle.text.specs.Digits.{whole-short}
+use Rattle.text.specs.Digits.{whole_short}
 use borrow.Author.Rules.{rules}
 use Rattle.cases.proofs.write_ordinate.Statement.{statement}
 use Rattle.cases.proofs.write_ordinate.Tie as tie
 
 write-whole-requires : tie.Need-write-whole-requires
-write-whole-requires c κs = omega (arith, whole-short 19 c.before.before.before.args.x (omega arith))
+write-whole-requires c κs = omega (arith, whole_short 19 c.before.before.before.args.x (omega arith))
 
 returns : tie.Need-returns
 returns c = rw c.before.before.before.before.if1.true c.before.before.write-whole.ensures
 
 write-number-requires : tie.Need-write-number-requires
-write-number-requires c κs = omega (arith, whole-short 19 c.before.before.before.args.x (omega arith))
+write-number-requires c κs = omega (arith, whole_short 19 c.before.before.before.args.x (omega arith))
 
 returns-2 : tie.Need-returns-2
 returns-2 c =

@@ -4,16 +4,16 @@ use mathlib.Core.Path.{◌≡◌, refl, ◌∙◌}
 use native.Mathlib.Omega.{arith}
 use lib.ListN.{length, take, get_or}
 use lib.Seq.{take_all}
-use Rattle.text.specs.Written.{written_none, Written, written-more}
-use Rattle.cases.specs.Sizes.{ordinateSize}
-use Rattle.cases.specs.Text.{numbersFrom}
+use Rattle.text.specs.Written.{written_none, Written, written_more}
+use Rattle.cases.specs.Sizes.{ordinate_size}
+use Rattle.cases.specs.Text.{numbers_from}
 use Rattle.cases.specs.Fronts.{number_short, numbers_more}
 use Rattle.cases.proofs.write_ordinates.Statement.{statement}
 use Rattle.cases.proofs.write_ordinates.Tie as tie
 
 abbrev invariant-loop : tie.invariant-loop
 invariant-loop out₀ start ordinates at₀ i₀ out at i =
-    (i ≤ length ordinates) × (at ≤ start + ordinateSize * i) × (length out ≡ length out₀) × Written out₀ start (numbersFrom 0 (take i ordinates)) out at
+    (i ≤ length ordinates) × (at ≤ start + ordinate_size * i) × (length out ≡ length out₀) × Written out₀ start (numbers_from 0 (take i ordinates)) out at
 
 abbrev decreases-loop : tie.decreases-loop
 decreases-loop out₀ start ordinates at₀ i₀ out at i = length ordinates - i
@@ -31,7 +31,7 @@ loop-again c =
       omega arith,
       omega (arith, written.ensures.place),
       written.auto.0 ∙ l.invariant.2,
-      rw (numbers_more l.i ordinates (omega arith)) (written-more (omega arith) l.invariant.3 written.ensures),
+      rw (numbers_more l.i ordinates (omega arith)) (written_more (omega arith) l.invariant.3 written.ensures),
     )
 
 returns : tie.Need-returns invariant-loop decreases-loop
@@ -41,7 +41,7 @@ returns c =
     let ordinates = loop.before.before.before.args.ordinates.now in
     let all = take_all l.i ordinates c.before.before.before.before.loop-test.false in
     let end = c.before.before.write_byte.ensures in
-    (written-more (omega arith) (rw all at l.invariant.3) end, omega (arith, end.place))
+    (written_more (omega arith) (rw all at l.invariant.3) end, omega (arith, end.place))
 
 pub write-ordinates-spec : {M : Type 1} → statement M
 write-ordinates-spec =

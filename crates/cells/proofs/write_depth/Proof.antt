@@ -1,7 +1,7 @@
 -- The figure of a depth: its millionths of an inch are rounded half up.
 use native.Mathlib.Omega.{arith}
-use Rattle.cells.specs.Cells.{measureIs}
-use Rattle.cells.specs.Here.{depth-here}
+use Rattle.cells.specs.Cells.{measure_is}
+use Rattle.cells.specs.Here.{depth_here}
 use borrow.Author.Rules.{rules}
 use Rattle.cells.proofs.write_depth.Statement.{statement}
 use Rattle.cells.proofs.write_depth.Tie as tie
@@ -9,7 +9,7 @@ use Rattle.cells.proofs.write_depth.Tie as tie
 returns : tie.Need-returns
 returns c =
     let x = c.before.before.before.before.before.args in
-    depth-here (measureIs x.measure) x.depth c.before.before.write-figure.ensures (omega arith)
+    depth_here (measure_is x.measure) x.depth c.before.before.write-figure.ensures (omega arith)
 
 pub write-depth-spec : {M : Type 1} → statement M
 write-depth-spec =

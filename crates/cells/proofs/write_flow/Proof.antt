@@ -1,7 +1,7 @@
 -- The figure of a flow: its millionths of a cfs are rounded half up.
 use native.Mathlib.Omega.{arith}
-use Rattle.cells.specs.Cells.{measureIs}
-use Rattle.cells.specs.Here.{flow-here}
+use Rattle.cells.specs.Cells.{measure_is}
+use Rattle.cells.specs.Here.{flow_here}
 use borrow.Author.Rules.{rules}
 use Rattle.cells.proofs.write_flow.Statement.{statement}
 use Rattle.cells.proofs.write_flow.Tie as tie
@@ -9,7 +9,7 @@ use Rattle.cells.proofs.write_flow.Tie as tie
 returns : tie.Need-returns
 returns c =
     let x = c.before.before.before.before.before.args in
-    flow-here (measureIs x.measure) x.flow c.before.before.write-figure.ensures (omega arith)
+    flow_here (measure_is x.measure) x.flow c.before.before.write-figure.ensures (omega arith)
 
 pub write-flow-spec : {M : Type 1} → statement M
 write-flow-spec =

@@ -3,9 +3,9 @@ use Prim.Native.Nat.{◌-◌, ◌*◌, ◌≤◌}
 use native.Mathlib.Nat.{mul-le-mul}
 use native.Mathlib.Omega.{arith}
 use lib.ListN.{get_or}
-use Rattle.cells.specs.Sizes.{mostDepth, mostUnit}
-use Rattle.cells.specs.Cells.{measureIs}
-use Rattle.cells.specs.Shares.{share-before, share-behind, share-falls}
+use Rattle.cells.specs.Sizes.{most_depth, most_unit}
+use Rattle.cells.specs.Cells.{measure_is}
+use Rattle.cells.specs.Shares.{share_before, share-behind, share-falls}
 use borrow.Author.Rules.{rules}
 use Rattle.cells.proofs.write_share.Statement.{statement}
 use Rattle.cells.proofs.write_share.Tie as tie
@@ -13,12 +13,12 @@ use Rattle.cells.proofs.write_share.Tie as tie
 returns : tie.Need-returns
 returns c =
     let x = c.before.before.before.before.before.before.before.args in
-    rw (share-before (measureIs x.measure) x.units.now x.excess x.k x.i (omega arith)) c.before.before.write_byte.ensures
+    rw (share_before (measure_is x.measure) x.units.now x.excess x.k x.i (omega arith)) c.before.before.write_byte.ensures
 
 returns-2 : tie.Need-returns-2
 returns-2 c =
     let x = c.before.before.before.before.before.before.before.before.args in
-    rw (share-behind (measureIs x.measure) x.units.now x.excess x.k x.i (omega arith) (omega arith)) c.before.before.write-byte2.ensures
+    rw (share-behind (measure_is x.measure) x.units.now x.excess x.k x.i (omega arith) (omega arith)) c.before.before.write-byte2.ensures
 
 -- the share is far below 64 bits
 mul-write-flow-2 : tie.Need-overflow-mul-write-flow-2
@@ -26,13 +26,13 @@ mul-write-flow-2 c =
     let s = c.before.before.before.before.before.before in
     let x = s.args in
     let unit = get_or x.units.now (x.i - x.k) 0 in
-    let product : unit * x.excess ≤ mostUnit * mostDepth = mul-le-mul (s.requires.0 (x.i - x.k)) s.requires.1 in
+    let product : unit * x.excess ≤ most_unit * most_depth = mul-le-mul (s.requires.0 (x.i - x.k)) s.requires.1 in
     omega arith
 
 returns-3 : tie.Need-returns-3
 returns-3 c =
     let x = c.before.before.before.before.before.before.before.before.before.args in
-    rw (share-falls (measureIs x.measure) x.units.now x.excess x.k x.i (omega arith) (omega arith)) c.before.before.write-flow.ensures
+    rw (share-falls (measure_is x.measure) x.units.now x.excess x.k x.i (omega arith) (omega arith)) c.before.before.write-flow.ensures
 
 pub write-share-spec : {M : Type 1} → statement M
 write-share-spec =

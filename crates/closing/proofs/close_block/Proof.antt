@@ -5,20 +5,20 @@ use mathlib.Core.List.{List, []}
 use native.Mathlib.Omega.{arith}
 use borrow.Author.Rules.{rules}
 use lib.ListN.{length}
-use Rattle.meaning.specs.Blocks.{Held, kindNumber}
-use Rattle.meaning.specs.Run.{heldFor, shapeRefusal}
-use Rattle.blocks.specs.Meant.{timeIs}
+use Rattle.meaning.specs.Blocks.{Held, kind_number}
+use Rattle.meaning.specs.Run.{held_for, shape_refusal}
+use Rattle.blocks.specs.Meant.{time_is}
 use Rattle.blocks.specs.Cards.{block_of}
 use Rattle.stack.specs.View.{Fits, view}
-use Rattle.summary.specs.Summary.{summaryWithin, over-told, within-told}
+use Rattle.summary.specs.Summary.{summary_within, over-told, within_told}
 use Rattle.telling.specs.LastHeld.{Last}
-use Rattle.closing.specs.ClosedBlock.{closes-by-shape, made-last, made-deep, closes-by-rise, closes-by-flow, closes-held}
+use Rattle.closing.specs.ClosedBlock.{closes_by_shape, made_last, made_deep, closes_by_rise, closes_by_flow, closes_held}
 use Rattle.closing.proofs.close_block.Statement.{statement}
 use Rattle.closing.proofs.close_block.Tie as tie
 
 -- what is held for the block
 abbrev own : tie.Start → List ℕ → Held
-own s name = let x = s.args in heldFor (timeIs x.time) (block_of name x.cards.now) (view x.held x.time.ordinates x.work.now)
+own s name = let x = s.args in held_for (time_is x.time) (block_of name x.cards.now) (view x.held x.time.ordinates x.work.now)
 
 -- where the block is made: behind its shape, and behind the entry
 abbrev shape_at : tie.After-make → tie.After-shape-of
@@ -36,21 +36,21 @@ kept_at c = c.before.before.before
 
 -- where the block is made, its shape is not refused,
 unrefused : (c : tie.After-make) (name : List ℕ) → let x = (entry c).args in
-    shapeRefusal (timeIs x.time) (block_of name x.cards.now) x.held.depth ≡ 0
+    shape_refusal (time_is x.time) (block_of name x.cards.now) x.held.depth ≡ 0
 unrefused c name = sym ((shape_at c).shape_of.ensures name).number ∙ c.before.before.if1.false
 
 -- and it is the last held
 last : (c : tie.After-make) (name : List ℕ) → let s = entry c in Last c.make.result.held s.args.time.ordinates c.make.new.0 (own s name)
-last c name = let x = (entry c).args in made-last (timeIs x.time) (block_of name x.cards.now) x.held x.work.now (unrefused c name) _ _ (c.make.ensures name).makes
+last c name = let x = (entry c).args in made_last (time_is x.time) (block_of name x.cards.now) x.held x.work.now (unrefused c name) _ _ (c.make.ensures name).makes
 
 deep : (c : tie.After-make) → c.make.result.held.depth ≤ 20
-deep c = let x = (entry c).args in made-deep (timeIs x.time) (block_of [] x.cards.now) x.held x.work.now (unrefused c []) _ _ (c.make.ensures []).makes
+deep c = let x = (entry c).args in made_deep (time_is x.time) (block_of [] x.cards.now) x.held x.work.now (unrefused c []) _ _ (c.make.ensures []).makes
 
 returns : tie.Need-returns
 returns c = λ name.
     let x = c.before.before.before.before.before.before.args in
     let number = (c.before.before.before.shape_of.ensures name).number in
-    closes-by-shape (timeIs x.time) (block_of name x.cards.now) x.held x.work.now _ number c.before.if1.true c.refuse.ensures
+    closes_by_shape (time_is x.time) (block_of name x.cards.now) x.held x.work.now _ number c.before.if1.true c.refuse.ensures
 
 make-requires : tie.Need-make-requires
 make-requires c κs =
@@ -63,7 +63,7 @@ returns-2 c = λ name.
     let m = c.before.before.before.before in
     let x = (entry m).args in
     let all = m.make.ensures name in
-    closes-by-rise (timeIs x.time) (block_of name x.cards.now) x.held x.work.now (unrefused m name) _ _ all.makes (sym all.over ∙ c.before.if2.true) c.refuse2.ensures
+    closes_by_rise (time_is x.time) (block_of name x.cards.now) x.held x.work.now (unrefused m name) _ _ all.makes (sym all.over ∙ c.before.if2.true) c.refuse2.ensures
 
 summarize-last-requires : tie.Need-summarize-last-requires
 summarize-last-requires c κs =
@@ -76,8 +76,8 @@ summarize-last-requires c κs =
     (omega (arith, (last q []).some), fits)
 
 -- its summary is that of its own hydrograph, as far as that is within the limit
-summed : (c : tie.After-summarize-last) (name : List ℕ) → c.summarize-last.result ≡ summaryWithin (own (entry (made_at (kept_at c))) name).flow
-summed c name = c.summarize-last.ensures ∙ ap summaryWithin (last (made_at (kept_at c)) name).flow
+summed : (c : tie.After-summarize-last) (name : List ℕ) → c.summarize-last.result ≡ summary_within (own (entry (made_at (kept_at c))) name).flow
+summed c name = c.summarize-last.ensures ∙ ap summary_within (last (made_at (kept_at c)) name).flow
 
 returns-3 : tie.Need-returns-3
 returns-3 c = λ name.
@@ -87,7 +87,7 @@ returns-3 c = λ name.
     let x = s.args in
     let all = m.make.ensures name in
     let high = over-told (own s name).flow (summed q name) (omega (arith, c.before.if3.true)) in
-    closes-by-flow (timeIs x.time) (block_of name x.cards.now) x.held x.work.now (unrefused m name) _ _ all.makes (sym all.over ∙ (kept_at q).if2.false) high
+    closes_by_flow (time_is x.time) (block_of name x.cards.now) x.held x.work.now (unrefused m name) _ _ all.makes (sym all.over ∙ (kept_at q).if2.false) high
     c.refuse3.ensures
 
 last-area-requires : tie.Need-last-area-requires
@@ -100,9 +100,9 @@ returns-4 c = λ name.
     let s = entry m in
     let x = s.args in
     let all = m.make.ensures name in
-    let told = within-told (own s name).flow (summed q name) (λ z. omega (arith, c.before.before.if3.false, z)) in
-    let kind = c.number_of_lem.ensures ∙ ap kindNumber ((shape_at m).shape_of.ensures name).kind in
-    closes-held (timeIs x.time) (block_of name x.cards.now) x.held x.work.now (unrefused m name) _ _ all.makes (sym all.over ∙ (kept_at q).if2.false) s.pre.1.cards
+    let told = within_told (own s name).flow (summed q name) (λ z. omega (arith, c.before.before.if3.false, z)) in
+    let kind = c.number_of_lem.ensures ∙ ap kind_number ((shape_at m).shape_of.ensures name).kind in
+    closes_held (time_is x.time) (block_of name x.cards.now) x.held x.work.now (unrefused m name) _ _ all.makes (sym all.over ∙ (kept_at q).if2.false) s.pre.1.cards
     s.pre.0.flows kind (c.before.last-area.ensures ∙ (last m name).area) told.1 told.0
 
 pub close-block-spec : {M : Type 1} → statement M

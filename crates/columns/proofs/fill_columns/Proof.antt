@@ -8,14 +8,14 @@ use lib.ListN.{length}
 use Rattle.meaning.specs.Records.{UI}
 use Rattle.meaning.specs.Blocks as blocks
 use Rattle.meaning.specs.Blocks.{Block, rain, excess}
-use Rattle.blocks.specs.Meant.{timeIs}
+use Rattle.blocks.specs.Meant.{time_is}
 use Rattle.blocks.specs.Cards.{block_of}
-use Rattle.blocks.specs.Values.{values-few}
-use Rattle.meaning.specs.Water.{rainOf}
-use Rattle.excess.specs.Storms.{stormFall, stormExcess}
+use Rattle.blocks.specs.Values.{values_few}
+use Rattle.meaning.specs.Water.{rain_of}
+use Rattle.excess.specs.Storms.{storm_fall, storm_excess}
 use Rattle.runoff.specs.Storm.{StormWithin}
 use Rattle.making.specs.Kinds.{storm-read}
-use Rattle.columns.specs.Columns.{rains-made, excesses-made, losses-made, sums-made, left-within, length-block-rain, length-block-excess}
+use Rattle.columns.specs.Columns.{rains-made, excesses_made, losses_made, sums_made, left_within, length-block-rain, length-block-excess}
 use Rattle.columns.proofs.fill_columns.Statement.{statement}
 use Rattle.columns.proofs.fill_columns.Tie as tie
 
@@ -25,7 +25,7 @@ Got = tie.After-values2
 
 module _ (c : Got) where
   abbrev τ : blocks.Time
-  τ = timeIs c.before.before.before.before.before.before.before.before.args.time
+  τ = time_is c.before.before.before.before.before.before.before.before.args.time
 
   abbrev block : List ℕ → Block
   block name = block_of name c.before.before.before.before.before.before.before.before.args.cards.now
@@ -33,33 +33,33 @@ module _ (c : Got) where
   within : StormWithin c.before.values.result.now c.values2.result.now c.before.before.storm-of.result τ.ordinates
   within =
       let read = c.before.before.before.before.before.before.before.before.requires.0 in
-      let few = values-few UI [] c.before.before.before.before.before.before.before.before.args.cards.now (omega arith) read.words.long in
+      let few = values_few UI [] c.before.before.before.before.before.before.before.before.args.cards.now (omega arith) read.words.long in
       rw (c.before.values.ensures [], c.values2.ensures [], c.before.before.storm-of.ensures []) (storm-read τ (block []) read.time read.cards few)
 
   -- in as many words as there are ordinates
-  rains-are : (name : List ℕ) {n : ℕ} {xs : List ℕ} → n ≡ τ.ordinates → xs ≡ stormFall c.before.before.storm-of.result (rainOf c.values2.result.now n)
+  rains_are : (name : List ℕ) {n : ℕ} {xs : List ℕ} → n ≡ τ.ordinates → xs ≡ storm_fall c.before.before.storm-of.result (rain_of c.values2.result.now n)
       → xs ≡ rain τ (block name)
-  rains-are name =
+  rains_are name =
       rains-made τ (block name) c.before.before.storm-of.result c.before.values.result.now c.values2.result.now
       (c.before.before.storm-of.ensures name) (c.before.values.ensures name) (c.values2.ensures name)
 
-  excesses-are : (name : List ℕ) {n : ℕ} {xs : List ℕ} → n ≡ τ.ordinates → xs ≡ stormExcess c.before.before.storm-of.result (rainOf c.values2.result.now n)
+  excesses_are : (name : List ℕ) {n : ℕ} {xs : List ℕ} → n ≡ τ.ordinates → xs ≡ storm_excess c.before.before.storm-of.result (rain_of c.values2.result.now n)
       → xs ≡ excess τ (block name)
-  excesses-are name =
-      excesses-made τ (block name) c.before.before.storm-of.result c.before.values.result.now c.values2.result.now
+  excesses_are name =
+      excesses_made τ (block name) c.before.before.storm-of.result c.before.values.result.now c.values2.result.now
       (c.before.before.storm-of.ensures name) (c.before.values.ensures name) (c.values2.ensures name)
 
 storm-rain-requires : tie.Need-storm-rain-requires
 storm-rain-requires c κs =
     let s = c.before.before.before.before.before.before.before.before.before in
     let w = within c.before in
-    ((omega (arith, w.intervalsUp, s.requires.1.0), w.ratioUp), (w.rainsUp, w.totalUp))
+    ((omega (arith, w.intervals_up, s.requires.1.0), w.ratio_up), (w.rains_up, w.total_up))
 
 storm-excess-requires : tie.Need-storm-excess-requires
 storm-excess-requires c κs =
     let s = c.before.before.before.before.before.before.before.before.before.before.before.before.before in
     let w = within c.before.before.before.before.before in
-    ((omega (arith, w.intervalsUp, s.requires.1.2), w.ratioUp), (w.rainsUp, w.totalUp))
+    ((omega (arith, w.intervals_up, s.requires.1.2), w.ratio_up), (w.rains_up, w.total_up))
 
 find-losses-requires : tie.Need-find-losses-requires
 find-losses-requires c κs =
@@ -67,10 +67,10 @@ find-losses-requires c κs =
     let got = c.before.before.before.before.before.before.before.before.before.before.before in
     let fell = c.before.before.before.before.before.before.before.before.before.storm-rain in
     let left = c.before.before.before.before.before.storm-excess in
-    let rains = rains-are got [] s.requires.1.0 fell.ensures in
-    let excesses = excesses-are got [] s.requires.1.2 left.ensures in (
+    let rains = rains_are got [] s.requires.1.0 fell.ensures in
+    let excesses = excesses_are got [] s.requires.1.2 left.ensures in (
       (omega (arith, ap length rains, length-block-rain (τ got) (block got []), s.requires.1.1), omega (arith, ap length excesses, length-block-excess (τ got) (block got []), s.requires.1.1)),
-      λ (k : ℕ). rw (rains, excesses) (left-within (τ got) (block got []) k),
+      λ (k : ℕ). rw (rains, excesses) (left_within (τ got) (block got []) k),
     )
 
 runoff-into-requires : tie.Need-runoff-into-requires
@@ -85,14 +85,14 @@ returns c = λ name.
     let fell = left.before.before.before.before in
     let got = fell.before.before in
     let s = got.before.before.before.before.before.before.before.before in
-    let rains = rains-are got name s.requires.1.0 fell.storm-rain.ensures in
-    let excesses = excesses-are got name s.requires.1.2 left.storm-excess.ensures in
+    let rains = rains_are got name s.requires.1.0 fell.storm-rain.ensures in
+    let excesses = excesses_are got name s.requires.1.2 left.storm-excess.ensures in
     record {
-      rains-are = rains;
-      excesses-are = excesses;
-      losses-are = losses-made (τ got) (block got name) rains excesses s.requires.1.1 lost.find-losses.ensures;
+      rains_are = rains;
+      excesses_are = excesses;
+      losses-are = losses_made (τ got) (block got name) rains excesses s.requires.1.1 lost.find-losses.ensures;
       sums-are =
-          sums-made (τ got) (block got name) got.before.before.storm-of.result got.before.values.result.now got.values2.result.now
+          sums_made (τ got) (block got name) got.before.before.storm-of.result got.before.values.result.now got.values2.result.now
           (got.before.before.storm-of.ensures name) (got.before.values.ensures name) (got.values2.ensures name) s.requires.1.3 c.before.before.runoff-into.ensures;
     }
 

@@ -2,7 +2,7 @@
 use Prim.Native.Nat.{ℕ, ◌-◌}
 use native.Mathlib.Omega.{arith}
 use lib.ListN.{length, get_or}
-use Rattle.sequences.specs.Filling.{Filled, filled_none, filled_more, filled-all}
+use Rattle.sequences.specs.Filling.{Filled, filled_none, filled_more, filled_all}
 use Rattle.columns.proofs.find_losses.Statement.{statement}
 use Rattle.columns.proofs.find_losses.Tie as tie
 
@@ -24,4 +24,4 @@ find-losses-spec =
     (tie.spec
     invariant-loop decreases-loop (λ c. filled_none _ _) (λ c. omega arith) (λ c. omega arith) (λ c. omega arith) (λ c. omega arith) sub-losses (λ c. omega arith)
     (λ c. omega arith) (λ c. omega arith) (λ c. omega arith) loop-again (λ c. c.before.loop.invariant.long)
-    (λ c. filled-all _ _ _ _ c.before.loop.invariant (omega arith)))
+    (λ c. filled_all _ _ _ _ c.before.loop.invariant (omega arith)))

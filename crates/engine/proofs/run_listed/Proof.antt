@@ -7,17 +7,17 @@ use native.Mathlib.Omega.{arith}
 use lib.ListN.{length, replicate}
 use borrow.Author.Rules.{rules}
 use Rattle.meaning.specs.Run.{Lent}
-use Rattle.blocks.specs.Meant.{ratiosIs}
-use Rattle.answers.specs.Answers.{lent_as, sizeRefusal}
-use Rattle.rounds.specs.Rounds.{counted-nine}
+use Rattle.blocks.specs.Meant.{ratios_is}
+use Rattle.answers.specs.Answers.{lent_as, size_refusal}
+use Rattle.rounds.specs.Rounds.{counted_nine}
 use Rattle.rounds.specs.Every.{EveryBy}
-use Rattle.engine.specs.Outcomes.{refused-size, stopped, listed_small, listed-stopped}
-use Rattle.engine.specs.Walked.{work-enough, refused_as, settled-as, listed-as}
+use Rattle.engine.specs.Outcomes.{refused-size, stopped, listed_small, listed_stopped}
+use Rattle.engine.specs.Walked.{work_enough, refused_as, settled-as, listed_as}
 use Rattle.engine.proofs.run_listed.Statement.{statement}
 use Rattle.engine.proofs.run_listed.Tie as tie
 
-all-zeros : {n : ℕ} {after : List ℕ} → length after ≡ n → after ≡ replicate n 0 → after ≡ replicate (length after) 0
-all-zeros l e = e ∙ ap (λ (k : ℕ). replicate k 0) (sym l)
+all_zeros : {n : ℕ} {after : List ℕ} → length after ≡ n → after ≡ replicate n 0 → after ≡ replicate (length after) 0
+all_zeros l e = e ∙ ap (λ (k : ℕ). replicate k 0) (sym l)
 
 abbrev lent : tie.Start → Lent
 lent c = lent_as c.args.work.now c.args.ordinates.now c.args.records.now
@@ -38,16 +38,16 @@ ordinates c = c.walk-every.new.1.1.1.0
 abbrev records : Walked → List ℕ
 records c = c.walk-every.new.1.1.1.1.0
 
-work-long : (c : Walked) → length (work c) ≡ length (entry c).args.work.now
-work-long c = c.walk-every.auto.1.1.0
+work_long : (c : Walked) → length (work c) ≡ length (entry c).args.work.now
+work_long c = c.walk-every.auto.1.1.0
 
-ordinates-long : (c : Walked) → length (ordinates c) ≡ length (entry c).args.ordinates.now
-ordinates-long c = c.walk-every.auto.1.1.1.0 ∙ c.before.before.before.before.before.before.before.before.before.before.zero-words.auto.0
+ordinates_long : (c : Walked) → length (ordinates c) ≡ length (entry c).args.ordinates.now
+ordinates_long c = c.walk-every.auto.1.1.1.0 ∙ c.before.before.before.before.before.before.before.before.before.before.zero-words.auto.0
 
-records-long : (c : Walked) → length (records c) ≡ length (entry c).args.records.now
-records-long c = c.walk-every.auto.1.1.1.1.0 ∙ c.before.before.before.before.before.before.fill-bytes.auto.0
+records_long : (c : Walked) → length (records c) ≡ length (entry c).args.records.now
+records_long c = c.walk-every.auto.1.1.1.1.0 ∙ c.before.before.before.before.before.before.fill-bytes.auto.0
 
-sized : (c : Walked) → sizeRefusal (length (entry c).args.work.now) (length (entry c).args.deck.now) ≡ 0
+sized : (c : Walked) → size_refusal (length (entry c).args.work.now) (length (entry c).args.deck.now) ≡ 0
 sized c =
     let passed = c.before.before.before.before.before.before.before.before.before.before.before.before in
     sym passed.before.size-refusal.ensures ∙ passed.if1.false
@@ -55,7 +55,7 @@ sized c =
 says : (c : Walked) (t : Bool) → c.walk-every.result.worked.refused ≡ t
     → let w = c.walk-every.result in
     let x = (entry c).args in
-    EveryBy t x.deck.now (record { block = x.named; ratio = x.ratio }) (length x.ordinates.now) (length x.records.now) (ratiosIs w.ratios) w.worked (ordinates c) (records c)
+    EveryBy t x.deck.now (record { block = x.named; ratio = x.ratio }) (length x.ordinates.now) (length x.records.now) (ratios_is w.ratios) w.worked (ordinates c) (records c)
 says c t is =
     let z = c.before.before.before.before.before.before.before.before.before.before.zero-words in
     let y = c.before.before.before.before.before.before.fill-bytes in
@@ -63,7 +63,7 @@ says c t is =
     let x = (entry c).args in
     subst
     (λ (t : Bool).
-    EveryBy t x.deck.now (record { block = x.named; ratio = x.ratio }) (length x.ordinates.now) (length x.records.now) (ratiosIs w.ratios) w.worked (ordinates c) (records c))
+    EveryBy t x.deck.now (record { block = x.named; ratio = x.ratio }) (length x.ordinates.now) (length x.records.now) (ratios_is w.ratios) w.worked (ordinates c) (records c))
     is (rw (z.auto.0, y.auto.0) at c.walk-every.ensures.every)
 
 returns : tie.Need-returns
@@ -82,13 +82,13 @@ walk-every-requires c κs =
     let y = c.before.before.before.before.before.fill-bytes in
     let s = c.before.before.before.before.before.before.before.before.before.before.before.before.before.before.before.before.before in
     let passed = c.before.before.before.before.before.before.before.before.before.before.before in
-    let enough = work-enough (length s.args.work.now) (length s.args.deck.now) (sym passed.before.size-refusal.ensures ∙ passed.if1.false) in
-    (enough, (all-zeros z.auto.0 z.ensures, all-zeros y.auto.0 y.ensures))
+    let enough = work_enough (length s.args.work.now) (length s.args.deck.now) (sym passed.before.size-refusal.ensures ∙ passed.if1.false) in
+    (enough, (all_zeros z.auto.0 z.ensures, all_zeros y.auto.0 y.ensures))
 
 same-length-5 : tie.Need-same-length-5
 same-length-5 c =
     let r = c.before.before.before.before.before.before in
-    r.refuse2.auto.1.1.1.0 ∙ ordinates-long r.before.before.before.before.before.before.before.before.before.before.before.before
+    r.refuse2.auto.1.1.1.0 ∙ ordinates_long r.before.before.before.before.before.before.before.before.before.before.before.before
 
 returns-2 : tie.Need-returns-2
 returns-2 c =
@@ -97,21 +97,21 @@ returns-2 c =
     let w = p.walk-every.result.worked in
     let r = c.before.before.before.before.before.before.refuse2 in
     let stop = says p _ c.before.before.before.before.before.before.before.before.before.before.if2.true in (
-      refused_as x.deck.now x.named x.ratio x.work.now x.ordinates.now x.records.now (work p) (ordinates p) (records p) (work-long p) (ordinates-long p) (records-long p) _
+      refused_as x.deck.now x.named x.ratio x.work.now x.ordinates.now x.records.now (work p) (ordinates p) (records p) (work_long p) (ordinates_long p) (records_long p) _
           w.number w.line r.ensures.0 (stopped x.deck.now x.named x.ratio (lent (entry p)) (sized p) w.number w.line stop),
-      (r.ensures.1.0 ∙ listed-stopped x.deck.now (length x.work.now) w.number w.line (sized p) stop, r.ensures.1.1),
+      (r.ensures.1.0 ∙ listed_stopped x.deck.now (length x.work.now) w.number w.line (sized p) stop, r.ensures.1.1),
     )
 
 settle-requires : tie.Need-settle-requires
 settle-requires c κs =
     let p = c.before.before.before.before.before.before.before.before.before.before.before.before.before in
     let n = c.before.before.before.count_of.ensures in
-    ((says p _ c.before.before.before.before.before.if2.false).few, omega (arith, n, counted-nine p.walk-every.result.ratios p.walk-every.ensures.few-ratios))
+    ((says p _ c.before.before.before.before.before.if2.false).few, omega (arith, n, counted_nine p.walk-every.result.ratios p.walk-every.ensures.few-ratios))
 
 same-length-8 : tie.Need-same-length-8
 same-length-8 c =
     let r = c.before.before.before.before.before.before in
-    r.settle.auto.1.1.1.1.1.1.0 ∙ ordinates-long r.before.before.before.before.before.before.before.before.before.before.before.before.before.before
+    r.settle.auto.1.1.1.1.1.1.0 ∙ ordinates_long r.before.before.before.before.before.before.before.before.before.before.before.before.before.before
 
 returns-3 : tie.Need-returns-3
 returns-3 c =
@@ -122,11 +122,11 @@ returns-3 c =
     let n = c.before.before.before.before.before.before.before.before.before.before.count_of.ensures in (
       c.before.before.before.before.before.before.settle.ensures
           ∙ rw n
-          (settled-as x.deck.now x.named x.ratio x.work.now x.ordinates.now x.records.now (work p) (ordinates p) (records p) (work-long p) (ordinates-long p) (records-long p)
-          (ratiosIs w.ratios) w.worked.nq w.worked.blocks (sized p) d),
+          (settled-as x.deck.now x.named x.ratio x.work.now x.ordinates.now x.records.now (work p) (ordinates p) (records p) (work_long p) (ordinates_long p) (records_long p)
+          (ratios_is w.ratios) w.worked.nq w.worked.blocks (sized p) d),
       (
-        listed-as x.deck.now x.named x.ratio x.work.now x.ordinates.now x.records.now (work p) (ordinates p) (records p) (work-long p) (ordinates-long p) (records-long p)
-            (ratiosIs w.ratios) w.worked.nq w.worked.blocks (sized p) d,
+        listed_as x.deck.now x.named x.ratio x.work.now x.ordinates.now x.records.now (work p) (ordinates p) (records p) (work_long p) (ordinates_long p) (records_long p)
+            (ratios_is w.ratios) w.worked.nq w.worked.blocks (sized p) d,
         p.walk-every.ensures.few-ratios,
       ),
     )

@@ -2,9 +2,9 @@
 use mathlib.Core.Path.{◌≡◌, sym, ap, ◌∙◌}
 use borrow.Author.Rules.{rules}
 use lib.ListN.{length}
-use Rattle.meaning.specs.Water.{rainOf}
+use Rattle.meaning.specs.Water.{rain_of}
 use Rattle.storms.specs.Rains.{rain-sum}
-use Rattle.excess.specs.Losses.{excessBy}
+use Rattle.excess.specs.Losses.{excess_by}
 use Rattle.excess.specs.Storms.{rated-whole}
 use Rattle.excess.proofs.listed_excess.Statement.{statement}
 use Rattle.excess.proofs.listed_excess.Tie as tie
@@ -13,7 +13,7 @@ returns : tie.Need-returns
 returns c =
     let x = c.before.before.before.before.before.before.before.args in
     let whole = c.before.before.before.before.if1.true in
-    c.before.before.excess-into.ensures ∙ rw whole (ap (excessBy x.loss) (sym (rated-whole (rainOf x.rains.now (length x.excess.now)))))
+    c.before.before.excess-into.ensures ∙ rw whole (ap (excess_by x.loss) (sym (rated-whole (rain_of x.rains.now (length x.excess.now)))))
 
 rate-requires : tie.Need-rate-requires
 rate-requires c κs =

@@ -4,7 +4,7 @@ use mathlib.Core.Path.{refl}
 use native.Mathlib.Omega.{arith}
 use lib.ListN.{length}
 use Rattle.sequences.specs.Carrying.{standing}
-use Rattle.excess.specs.Losses.{Losing, losing-none, losing-more, losing-all}
+use Rattle.excess.specs.Losses.{Losing, losing_none, losing_more, losing_all}
 use Rattle.excess.proofs.lose.Statement.{statement}
 use Rattle.excess.proofs.lose.Tie as tie
 
@@ -15,20 +15,20 @@ abbrev decreases-loop : tie.decreases-loop
 decreases-loop rain₀ loss unfilled₀ i₀ rain unfilled i = length rain₀ - i
 
 loop-holds : tie.Need-loop-init invariant-loop decreases-loop
-loop-holds c = let x = c.before.before.args in losing-none x.loss standing x.rain.now
+loop-holds c = let x = c.before.before.args in losing_none x.loss standing x.rain.now
 
 loop-again : tie.Need-loop-preserved invariant-loop decreases-loop
 loop-again c =
     let x = c.before.before.before.before.before.before.before.args in
     let l = c.before.before.before.before.loop in
     let left = c.before.lose-interval in
-    losing-more x.loss standing x.rain.now l.rain l.unfilled.0 l.i l.invariant _ left.result (omega arith) refl left.ensures
+    losing_more x.loss standing x.rain.now l.rain l.unfilled.0 l.i l.invariant _ left.result (omega arith) refl left.ensures
 
 returns : tie.Need-returns invariant-loop decreases-loop
 returns c =
     let x = c.before.before.before.before.args in
     let l = c.before.loop in
-    losing-all x.loss standing x.rain.now l.rain l.unfilled.0 l.i l.invariant (omega arith) refl
+    losing_all x.loss standing x.rain.now l.rain l.unfilled.0 l.i l.invariant (omega arith) refl
 
 pub lose-spec : {M : Type 1} → statement M
 lose-spec =

@@ -3,15 +3,15 @@ use mathlib.Core.Path.{refl, ◌∙◌}
 use native.Mathlib.Omega.{arith}
 use borrow.Author.Rules.{rules}
 use lib.ListN.{length}
-use Rattle.sequences.specs.Cuts.{whole-up}
-use Rattle.meaning.specs.Water.{rainOf}
+use Rattle.sequences.specs.Cuts.{whole_up}
+use Rattle.meaning.specs.Water.{rain_of}
 use Rattle.excess.proofs.rate_total.Statement.{statement}
 use Rattle.excess.proofs.rate_total.Tie as tie
 
 rate-requires : tie.Need-rate-requires
 rate-requires c κs =
     let s = c.before.before.before.before.before.before.before in
-    let most = whole-up s.args.total.0 (rainOf s.args.rains.now (length s.args.rain.now)) in
+    let most = whole_up s.args.total.0 (rain_of s.args.rains.now (length s.args.rain.now)) in
     (s.requires.0.1, rw c.before.before.before.storm-into.ensures (omega (arith, most, s.requires.0.2)))
 
 returns : tie.Need-returns

@@ -3,7 +3,7 @@ use mathlib.Core.Path.{refl, ◌∙◌}
 use borrow.Author.Rules.{rules}
 use lib.ListN.{length}
 use Rattle.storms.specs.Rains.{rain-sum}
-use Rattle.excess.specs.Storms.{given-within}
+use Rattle.excess.specs.Storms.{given_within}
 use Rattle.excess.proofs.storm_rain.Statement.{statement}
 use Rattle.excess.proofs.storm_rain.Tie as tie
 
@@ -16,7 +16,7 @@ rate-requires c κs =
 rate-total-requires : tie.Need-rate-total-requires
 rate-total-requires c κs =
     let p = c.before.before.before.before.before.before.requires in
-    ((p.0.0, p.0.1, given-within c.before.before.total.given.1 p.1.1), p.1.0)
+    ((p.0.0, p.0.1, given_within c.before.before.total.given.1 p.1.1), p.1.0)
 
 returns : tie.Need-returns
 returns c =

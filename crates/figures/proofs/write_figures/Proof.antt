@@ -1,7 +1,7 @@
 -- One figure behind another. What is written so far and what is still to be written are together the line's text, for which there is room.
 use native.Mathlib.Omega.{arith}
-use Rattle.text.specs.Written.{written-more}
-use Rattle.figures.specs.Line.{figuresText, length-figures}
+use Rattle.text.specs.Written.{written_more}
+use Rattle.figures.specs.Line.{figures_text, length-figures}
 use borrow.Author.Rules.{rules}
 use Rattle.figures.proofs.write_figures.Statement.{statement}
 use Rattle.figures.proofs.write_figures.Tie as tie
@@ -29,7 +29,7 @@ write-byte-requires c κs =
     omega (arith, length-figures mid.before.before.before.before.before.before.before.before.before.before.before.args.f)
 
 returns : tie.Need-returns
-unfolding figuresText
+unfolding figures_text
 returns c =
     let c₅ = c.before.before.before.before.before.before in
     let c₄ = c₅.before.before.before.before in
@@ -37,11 +37,11 @@ returns c =
     let c₂ = c₃.before.before.before.before in
     let c₁ = c₂.before.before.before.before in
     let room = length-figures c₁.before.before.before.args.f in
-    let area = written-more (omega arith) c₁.write-number.ensures c₂.write-amount.ensures in
-    let peak = written-more (omega arith) area c₃.write-amount2.ensures in
-    let interval = written-more (omega arith) peak c₄.write-number2.ensures in
-    let sum = written-more (omega arith) interval c₅.write-number3.ensures in
-    written-more (omega arith) sum c.before.before.write_byte.ensures
+    let area = written_more (omega arith) c₁.write-number.ensures c₂.write-amount.ensures in
+    let peak = written_more (omega arith) area c₃.write-amount2.ensures in
+    let interval = written_more (omega arith) peak c₄.write-number2.ensures in
+    let sum = written_more (omega arith) interval c₅.write-number3.ensures in
+    written_more (omega arith) sum c.before.before.write_byte.ensures
 
 pub write-figures-spec : {M : Type 1} → statement M
 write-figures-spec =

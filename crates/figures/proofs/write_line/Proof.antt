@@ -2,8 +2,8 @@
 use mathlib.Core.Path.{ap}
 use native.Mathlib.Omega.{arith}
 use lib.ListN.{length}
-use Rattle.text.specs.Written.{written-more}
-use Rattle.figures.specs.Line.{figuresText, line_of, length-line}
+use Rattle.text.specs.Written.{written_more}
+use Rattle.figures.specs.Line.{figures_text, line_of, length-line}
 use borrow.Author.Rules.{rules}
 use Rattle.figures.proofs.write_line.Statement.{statement}
 use Rattle.figures.proofs.write_line.Tie as tie
@@ -14,7 +14,7 @@ write-text-requires c κs = omega (arith, length-line c.before.before.before.bef
 write-figures-requires : tie.Need-write-figures-requires
 write-figures-requires c κs =
     let name = ap length c.before.before.before.before.before.trim-blanks.ensures in
-    let figures = ap (λ f. length (figuresText f)) c.read-figures.ensures in
+    let figures = ap (λ f. length (figures_text f)) c.read-figures.ensures in
     omega (arith, length-line c.before.before.before.before.before.before.before.before.before.before.args.from.now)
 
 returns : tie.Need-returns
@@ -24,7 +24,7 @@ returns c =
     let name = c₁.before.trim-blanks.ensures in
     let long = ap length name in
     let room = length-line c₁.before.before.before.before.before.before.args.from.now in
-    written-more (omega arith) (rw name at c₁.write-text.ensures) (rw c.before.before.before.read-figures.ensures at c.before.before.write-figures.ensures)
+    written_more (omega arith) (rw name at c₁.write-text.ensures) (rw c.before.before.before.read-figures.ensures at c.before.before.write-figures.ensures)
 
 pub write-line-spec : {M : Type 1} → statement M
 write-line-spec =

@@ -11,14 +11,14 @@ use borrow.Author.Rules.{rules}
 use Rattle.meaning.specs.Lines.{lines_of}
 use Rattle.meaning.specs.Fields.{Fixed}
 use Rattle.meaning.specs.Run.{BeforeTime}
-use Rattle.events.specs.NextEvent.{nextEvent}
+use Rattle.events.specs.NextEvent.{next_event}
 use Rattle.placing.specs.declared.Reading.{Reading}
-use Rattle.placing.specs.Readings.{readingIs}
+use Rattle.placing.specs.Readings.{reading_is}
 use Rattle.reading.specs.declared.Event.{Event}
 use Rattle.reading.specs.declared.Event.TheVariants as event
 use Rattle.reading.specs.Found.{FoundIs, Onward, OnwardBy}
 use Rattle.finding.specs.Place.{block_at}
-use Rattle.finding.specs.Seeking.{Seeking, starts, refused, missing, kk-here, zz-here, zz-before, goes_on}
+use Rattle.finding.specs.Seeking.{Seeking, starts, refused, missing, kk_here, zz_here, zz_before, goes_on}
 use Rattle.finding.proofs.find_block.Statement.{statement}
 use Rattle.finding.proofs.find_block.Tie as tie
 
@@ -61,8 +61,8 @@ cards-kept c = c.read-on.auto.1.1.1.1.0 ∙ (turn c).loop.invariant.cards-long �
 found : (c : Read) (e : Event) → c.read-on.result.event ≡ e
     → let g = c.read-on.result in
     let l = (turn c).loop in
-    FoundIs e (readingIs g.reading (cards c)) g.name g.line (lines_of (drop g.at (deck c)))
-    (nextEvent (lines_of (drop l.at (deck c))) (readingIs l.r l.cards) (l.line + 1))
+    FoundIs e (reading_is g.reading (cards c)) g.name g.line (lines_of (drop g.at (deck c)))
+    (next_event (lines_of (drop l.at (deck c))) (reading_is l.r l.cards) (l.line + 1))
 found c e is = rw is at c.read-on.ensures.found
 
 abbrev Goes_on : Read → Type 0
@@ -82,11 +82,11 @@ which : (c : Met)
     → (((read c).read-on.result.event ≡ event.Opened) × (c.match.ended ≡ false)) ⊎ (((read c).read-on.result.event ≡ event.Ended) × (c.match.ended ≡ true))
 which c = ⊎_elim (λ w. inl (w.1.given.1, w.2)) (λ w. inr (w.1.given.1, w.2)) c.match.branch
 
-is-kk : (c : Met) → c.match.ended ≡ false → (read c).read-on.result.event ≡ event.Opened
-is-kk c h = ⊎_elim (λ w. w.0) (λ w. absurd (true≢false (sym w.1 ∙ h))) (which c)
+is_kk : (c : Met) → c.match.ended ≡ false → (read c).read-on.result.event ≡ event.Opened
+is_kk c h = ⊎_elim (λ w. w.0) (λ w. absurd (true≢false (sym w.1 ∙ h))) (which c)
 
-is-zz : (c : Met) → c.match.ended ≡ true → (read c).read-on.result.event ≡ event.Ended
-is-zz c h = ⊎_elim (λ w. absurd (false≢true (sym w.1 ∙ h))) (λ w. w.0) (which c)
+is_zz : (c : Met) → c.match.ended ≡ true → (read c).read-on.result.event ≡ event.Ended
+is_zz c h = ⊎_elim (λ w. absurd (false≢true (sym w.1 ∙ h))) (λ w. w.0) (which c)
 
 onward : (c : Met) → Goes_on (read c)
 onward c = ⊎_elim (λ w. goes_by (read c) event.Opened w.0) (λ w. goes_by (read c) event.Ended w.0) (which c)
@@ -110,8 +110,8 @@ returns-3 c =
     let s = (turn p).loop.inv.seeking in
     rw (c.found-at3.ensures, c.before.is_open.ensures)
     (⊎_elim
-    (λ w. kk-here s (onward m).ready (found p _ w.0) c.before.before.if1.true)
-    (λ w. zz-here s (onward m).ready (found p _ w.0) c.before.before.if1.true)
+    (λ w. kk_here s (onward m).ready (found p _ w.0) c.before.before.if1.true)
+    (λ w. zz_here s (onward m).ready (found p _ w.0) c.before.before.if1.true)
     (which m))
 
 returns-4 : tie.Need-returns-4 invariant-loop decreases-loop
@@ -119,7 +119,7 @@ returns-4 c =
     let m = c.before.before.before in
     let p = read m in
     rw c.found-at4.ensures
-    (zz-before (turn p).loop.inv.seeking (onward m).ready (found p _ (is-zz m c.before.if2.true)) c.before.before.if1.false)
+    (zz_before (turn p).loop.inv.seeking (onward m).ready (found p _ (is_zz m c.before.if2.true)) c.before.before.if1.false)
 
 open-block-requires : tie.Need-open-block-requires invariant-loop decreases-loop
 open-block-requires c κs = let o = onward c.before.before.before in (o.letters, o.ready)
@@ -136,7 +136,7 @@ loop-again c =
     let x = c.before.before.open_block in
     record {
       seeking =
-          goes_on (turn p).loop.inv.seeking o.ready g.name g.at (found p _ (is-kk m c.before.before.before.before.if2.false))
+          goes_on (turn p).loop.inv.seeking o.ready g.name g.at (found p _ (is_kk m c.before.before.before.before.if2.false))
           refl o.within o.counted c.before.before.before.before.before.if1.false x.ensures;
       cards-long = x.auto.1.1.0 ∙ p.read-on.kept.1.1.1.1.0 ∙ (turn p).loop.inv.cards-long;
     }

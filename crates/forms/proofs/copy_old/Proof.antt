@@ -5,15 +5,15 @@ use native.Mathlib.Numerals.{add-one}
 use native.Mathlib.Omega.{arith}
 use lib.ListN.{length, take, drop, length-set, take-append-drop}
 use lib.Seq.{take-suc, take-suc-set, drop-set-lt, drop-drop}
-use Rattle.meaning.specs.Results.{oldRecordSize}
+use Rattle.meaning.specs.Results.{old_record_size}
 use Rattle.forms.proofs.copy_old.Statement.{statement}
 use Rattle.forms.proofs.copy_old.Tie as tie
 
 abbrev invariant-loop : tie.invariant-loop
-invariant-loop to₀ from i₀ to i = (i ≤ oldRecordSize) × (length to ≡ length to₀) × (take i to ≡ take i from) × (drop i to ≡ drop i to₀)
+invariant-loop to₀ from i₀ to i = (i ≤ old_record_size) × (length to ≡ length to₀) × (take i to ≡ take i from) × (drop i to ≡ drop i to₀)
 
 abbrev decreases-loop : tie.decreases-loop
-decreases-loop to₀ from i₀ to i = oldRecordSize - i
+decreases-loop to₀ from i₀ to i = old_record_size - i
 
 loop-holds : tie.Need-loop-init invariant-loop decreases-loop
 loop-holds c = (omega arith, refl, refl, refl)
@@ -36,7 +36,7 @@ same_length c = c.before.loop.invariant.1
 returns : tie.Need-returns invariant-loop decreases-loop
 returns c =
     let l = c.before.loop in
-    let all : l.i ≡ oldRecordSize = omega arith in
+    let all : l.i ≡ old_record_size = omega arith in
     sym (take-append-drop l.i l.to) ∙ rw (l.invariant.2, l.invariant.3, all)
 
 pub copy-old-spec : {M : Type 1} → statement M

@@ -1,21 +1,21 @@
 -- The three tests, in the definition's order.
 use mathlib.Core.Path.{sym, ◌∙◌}
 use borrow.Author.Rules.{rules}
-use Rattle.forms.specs.Fault.{fault-front, fault-tail, fault-other, fault-none}
+use Rattle.forms.specs.Fault.{fault_front, fault_tail, fault_other, fault_none}
 use Rattle.forms.proofs.fault_of.Statement.{statement}
 use Rattle.forms.proofs.fault_of.Tie as tie
 
 returns : tie.Need-returns
 returns c =
     let front = c.before in
-    fault-front front.before.before.args.r.now (sym front.is-filled.ensures ∙ c.if1.true)
+    fault_front front.before.before.args.r.now (sym front.is-filled.ensures ∙ c.if1.true)
 
 returns-2 : tie.Need-returns-2
 returns-2 c =
     let tail = c.before in
     let passed = tail.before in
     let front = passed.before in
-    fault-tail front.before.before.args.r.now (sym front.is-filled.ensures ∙ passed.if1.false) (sym tail.is-tail-filled.ensures ∙ c.if2.true)
+    fault_tail front.before.before.args.r.now (sym front.is-filled.ensures ∙ passed.if1.false) (sym tail.is-tail-filled.ensures ∙ c.if2.true)
 
 returns-3 : tie.Need-returns-3
 returns-3 c =
@@ -24,7 +24,7 @@ returns-3 c =
     let tail = passed.before in
     let first = tail.before in
     let front = first.before in
-    fault-other front.before.before.args.r.now (sym front.is-filled.ensures ∙ first.if1.false) (sym tail.is-tail-filled.ensures ∙ passed.if2.false)
+    fault_other front.before.before.args.r.now (sym front.is-filled.ensures ∙ first.if1.false) (sym tail.is-tail-filled.ensures ∙ passed.if2.false)
     (sym ratio.is-other.ensures ∙ c.if3.true)
 
 returns-4 : tie.Need-returns-4
@@ -34,7 +34,7 @@ returns-4 c =
     let tail = passed.before in
     let first = tail.before in
     let front = first.before in
-    fault-none front.before.before.args.r.now (sym front.is-filled.ensures ∙ first.if1.false) (sym tail.is-tail-filled.ensures ∙ passed.if2.false)
+    fault_none front.before.before.args.r.now (sym front.is-filled.ensures ∙ first.if1.false) (sym tail.is-tail-filled.ensures ∙ passed.if2.false)
     (sym ratio.is-other.ensures ∙ c.if3.false)
 
 pub fault-of-spec : {M : Type 1} → statement M

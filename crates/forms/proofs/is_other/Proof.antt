@@ -1,7 +1,7 @@
 -- Four bytes are those of ratio 100 and place 1 where their number is.
 use native.Mathlib.Omega.{arith}
 use borrow.Author.Rules.{rules}
-use Rattle.forms.specs.Tests.{other-told}
+use Rattle.forms.specs.Tests.{other_told}
 use Rattle.forms.proofs.is_other.Statement.{statement}
 use Rattle.forms.proofs.is_other.Tie as tie
 
@@ -9,7 +9,7 @@ returns : tie.Need-returns
 returns c =
     let known = c.before.before in
     let start = known.before in
-    rw c.read-le.ensures.0 (other-told start.args.r.now start.requires (λ k. omega (arith, known.shared-slice-known.given k)))
+    rw c.read-le.ensures.0 (other_told start.args.r.now start.requires (λ k. omega (arith, known.shared-slice-known.given k)))
 
 pub is-other-spec : {M : Type 1} → statement M
 is-other-spec =

@@ -5,12 +5,12 @@ use Prim.Native.Nat.{ℕ}
 use native.Mathlib.Omega.{arith}
 use lib.ListN.{length, length-take}
 use lib.Seq.{length-take-le}
-use Rattle.meaning.specs.Records.{mostOrdinates}
+use Rattle.meaning.specs.Records.{most_ordinates}
 use Rattle.meaning.specs.Run.{outcome}
-use Rattle.answers.specs.Answers.{outcomeIs}
-use Rattle.listing.specs.Printed.{lentRoom}
-use Rattle.text.specs.Counted.{written-counted}
-use Rattle.graphing.specs.Deck.{run-names, few-left, hydrograph-accepted, hydrograph-refused}
+use Rattle.answers.specs.Answers.{outcome_is}
+use Rattle.listing.specs.Printed.{lent_room}
+use Rattle.text.specs.Counted.{written_counted}
+use Rattle.graphing.specs.Deck.{run-names, few_left, hydrograph-accepted, hydrograph-refused}
 use borrow.Author.Rules.{rules}
 use Rattle.graphing.proofs.hydrograph_deck.Statement.{statement}
 use Rattle.graphing.proofs.hydrograph_deck.Tie as tie
@@ -25,12 +25,12 @@ entry c = c.before.before.before.before.before.before
 abbrev ordinates : Ran → List ℕ
 ordinates c = c.run.new.1.1.1.1.0
 
-long : (c : Ran) → length (ordinates c) ≡ mostOrdinates
+long : (c : Ran) → length (ordinates c) ≡ most_ordinates
 long c = search rules
 
 -- it names what this function was asked for
 named : (c : Ran) → let x = (entry c).args in
-    outcomeIs c.run.result c.run.new.1.1.1.0 (ordinates c) c.run.new.1.1.1.1.1.0 ≡ outcome x.deck.now x.named x.ratio lentRoom
+    outcome_is c.run.result c.run.new.1.1.1.0 (ordinates c) c.run.new.1.1.1.1.1.0 ≡ outcome x.deck.now x.named x.ratio lent_room
 named c =
     let x = (entry c).args in
     run-names x.deck.now x.named x.ratio c.run.result c.run.ensures (omega arith) (omega arith) (omega arith) (omega arith) (omega arith)
@@ -47,7 +47,7 @@ array-share-prefix-ordinates c =
     let told = c.before.before.before in
     let r = ran told in
     let x = (entry r).args in
-    omega (arith, few-left x.deck.now x.named x.ratio r.run.result (named r) told.answer.given.1, long r)
+    omega (arith, few_left x.deck.now x.named x.ratio r.run.result (named r) told.answer.given.1, long r)
 
 slice-aggregate-write-hydrograph : tie.Need-slice-aggregate-write-hydrograph
 slice-aggregate-write-hydrograph c = sym (length-take-le _ _ (array-share-prefix-ordinates c.before))
@@ -67,7 +67,7 @@ returns c =
     let w = c.before.before.write-hydrograph.ensures in
     let text =
     hydrograph-accepted x.deck.now x.named x.ratio r.run.result (named r) told.answer.given.1 {n = told.answer.given.0.0} w m.minutes-of.ensures.0 (omega arith) (long r) in
-    (text, written-counted w)
+    (text, written_counted w)
 
 returns-2 : tie.Need-returns-2
 returns-2 c =
@@ -77,7 +77,7 @@ returns-2 c =
     let w = c.before.before.write-refusal.ensures in
     let text =
     hydrograph-refused x.deck.now x.named x.ratio r.run.result (named r) told.answer2.given.1 w (omega arith) (omega arith) in
-    (text, written-counted w)
+    (text, written_counted w)
 
 pub hydrograph-deck-spec : {M : Type 1} → statement M
 hydrograph-deck-spec =

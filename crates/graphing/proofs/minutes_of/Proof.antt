@@ -4,7 +4,7 @@ use Rattle.meaning.specs.Lines.{lines_of}
 use Rattle.meaning.specs.Fields.{Fixed}
 use Rattle.meaning.specs.Run.{BeforeTime}
 use Rattle.finding.specs.Place.{Place, block_at}
-use Rattle.graphing.specs.Texts.{minutes-there, no-minutes}
+use Rattle.graphing.specs.Texts.{minutes_there, no_minutes}
 use borrow.Author.Rules.{rules}
 use Rattle.graphing.proofs.minutes_of.Statement.{statement}
 use Rattle.graphing.proofs.minutes_of.Tie as tie
@@ -19,12 +19,12 @@ place c = block_at (lines_of c.before.before.before.args.deck.now) (BeforeTime F
 returns : tie.Need-returns
 returns c =
     let found : Found = c.before.before in
-    minutes-there found.find-block.result found.find-block.new.1.1.0 (place found) found.find-block.ensures c.if1.true
+    minutes_there found.find-block.result found.find-block.new.1.1.0 (place found) found.find-block.ensures c.if1.true
 
 returns-2 : tie.Need-returns-2
 returns-2 c =
     let found : Found = c.before.before in
-    (no-minutes found.find-block.result found.find-block.new.1.1.0 (place found) found.find-block.ensures c.if1.false, omega arith)
+    (no_minutes found.find-block.result found.find-block.new.1.1.0 (place found) found.find-block.ensures c.if1.false, omega arith)
 
 pub minutes-of-spec : {M : Type 1} → statement M
 minutes-of-spec =

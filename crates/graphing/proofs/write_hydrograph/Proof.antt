@@ -5,15 +5,15 @@ use mathlib.Core.List.{List}
 use native.Mathlib.Omega.{arith}
 use lib.ListN.{length, take, length-take}
 use lib.Seq.{take_all}
-use Rattle.meaning.specs.Hydrograph.{ordinateLines}
-use Rattle.text.specs.Written.{Written, written_none, written-more}
-use Rattle.graphing.specs.Sizes.{lineSize, headSize}
-use Rattle.graphing.specs.Texts.{lines_more, lines-short}
+use Rattle.meaning.specs.Hydrograph.{ordinate_lines}
+use Rattle.text.specs.Written.{Written, written_none, written_more}
+use Rattle.graphing.specs.Sizes.{line_size, head_size}
+use Rattle.graphing.specs.Texts.{lines_more, lines_short}
 use Rattle.graphing.proofs.write_hydrograph.Statement.{statement}
 use Rattle.graphing.proofs.write_hydrograph.Tie as tie
 
 record Going (minutes : ℕ) (flows out₀ : List ℕ) (at₀ : ℕ) (out : List ℕ) (at i : ℕ) : Type 0 where
-  text : Written out₀ at₀ (ordinateLines minutes 1 (take i flows)) out at
+  text : Written out₀ at₀ (ordinate_lines minutes 1 (take i flows)) out at
   up : i ≤ length flows
   long : length out ≡ length out₀
 
@@ -36,11 +36,11 @@ head c = c.before.before.before
 abbrev entry : Loop → tie.Start invariant-loop decreases-loop
 entry c = (head c).before.before.before.before.before
 
-reached : (c : Loop) → c.loop.at ≤ headSize + lineSize * c.loop.i
+reached : (c : Loop) → c.loop.at ≤ head_size + line_size * c.loop.i
 reached c =
     let x = (entry c).args in
     let l = c.loop in
-    omega (arith, l.invariant.text.place, lines-short x.minutes (take l.i x.flows.now) 1, length-take l.i x.flows.now, (head c).write-text.ensures.place)
+    omega (arith, l.invariant.text.place, lines_short x.minutes (take l.i x.flows.now) 1, length-take l.i x.flows.now, (head c).write-text.ensures.place)
 
 loop-holds : tie.Need-loop-init invariant-loop decreases-loop
 loop-holds c = begun _ _ _ _ (omega arith)
@@ -55,7 +55,7 @@ loop-again c =
     let l = t.loop in
     let written = c.before.before.write-ordinate in
     record {
-      text = rw (lines_more x.minutes x.flows.now l.i (omega arith)) (written-more (omega (arith, reached t)) l.invariant.text written.ensures);
+      text = rw (lines_more x.minutes x.flows.now l.i (omega arith)) (written_more (omega (arith, reached t)) l.invariant.text written.ensures);
       up = omega arith;
       long = written.auto.0 ∙ l.invariant.long;
     }
@@ -65,7 +65,7 @@ returns c =
     let t = c.before in
     let flows = (entry t).args.flows.now in
     let all : take t.loop.i flows ≡ flows = take_all t.loop.i flows (omega arith) in
-    written-more (omega arith) (head t).write-text.ensures (rw all at t.loop.invariant.text)
+    written_more (omega arith) (head t).write-text.ensures (rw all at t.loop.invariant.text)
 
 pub write-hydrograph-spec : {M : Type 1} → statement M
 write-hydrograph-spec =

@@ -4,14 +4,14 @@ use mathlib.Core.Path.{◌≡◌, refl, ◌∙◌}
 use native.Mathlib.Omega.{arith}
 use lib.ListN.{length, take}
 use lib.Seq.{take_all}
-use Rattle.text.specs.Written.{written_none, Written, written-more}
-use Rattle.hexes.specs.Hex.{byteSize, hexAll, hex-more}
+use Rattle.text.specs.Written.{written_none, Written, written_more}
+use Rattle.hexes.specs.Hex.{byte_size, hex_all, hex_more}
 use Rattle.hexes.proofs.write_bytes.Statement.{statement}
 use Rattle.hexes.proofs.write_bytes.Tie as tie
 
 abbrev invariant-loop : tie.invariant-loop
 invariant-loop out₀ start bytes at₀ i₀ out at i =
-    (i ≤ length bytes) × (at ≤ start + byteSize * i) × (length out ≡ length out₀) × Written out₀ start (hexAll (take i bytes)) out at
+    (i ≤ length bytes) × (at ≤ start + byte_size * i) × (length out ≡ length out₀) × Written out₀ start (hex_all (take i bytes)) out at
 
 abbrev decreases-loop : tie.decreases-loop
 decreases-loop out₀ start bytes at₀ i₀ out at i = length bytes - i
@@ -28,7 +28,7 @@ loop-again c =
       omega arith,
       omega (arith, written.ensures.place),
       written.auto.0 ∙ l.invariant.2,
-      rw (hex-more l.i bytes (omega arith)) (written-more (omega arith) l.invariant.3 written.ensures),
+      rw (hex_more l.i bytes (omega arith)) (written_more (omega arith) l.invariant.3 written.ensures),
     )
 
 returns : tie.Need-returns invariant-loop decreases-loop
@@ -38,7 +38,7 @@ returns c =
     let bytes = loop.before.before.before.args.bytes.now in
     let all = take_all l.i bytes c.before.before.before.before.loop-test.false in
     let end = c.before.before.write_byte.ensures in
-    (written-more (omega arith) (rw all at l.invariant.3) end, omega (arith, end.place))
+    (written_more (omega arith) (rw all at l.invariant.3) end, omega (arith, end.place))
 
 pub write-bytes-spec : {M : Type 1} → statement M
 write-bytes-spec =

@@ -1,6 +1,6 @@
 -- The higher digit, and the lower one behind it.
 use native.Mathlib.Omega.{arith}
-use Rattle.text.specs.Written.{written-more}
+use Rattle.text.specs.Written.{written_more}
 use borrow.Author.Rules.{rules}
 use Rattle.hexes.proofs.write_hex.Statement.{statement}
 use Rattle.hexes.proofs.write_hex.Tie as tie
@@ -10,7 +10,7 @@ returns c =
     let low = c.before.before.before in
     let high = low.before.before.before.before.before in
     rw (← high.hex-digit.ensures, ← low.hex-digit2.ensures)
-    (written-more (omega arith) low.before.before.before.before.write_byte.ensures c.before.before.write-byte2.ensures)
+    (written_more (omega arith) low.before.before.before.before.write_byte.ensures c.before.before.write-byte2.ensures)
 
 pub write-hex-spec : {M : Type 1} → statement M
 write-hex-spec =

@@ -2,12 +2,12 @@
 use mathlib.Core.Path.{◌≡◌}
 use borrow.Author.Rules.{rules}
 use lib.ListN.{length}
-use Rattle.graphing.specs.Sizes.{hydrographSize}
+use Rattle.graphing.specs.Sizes.{hydrograph_size}
 use Rattle.hydrograph.proofs.main.Statement.{statement}
 use Rattle.hydrograph.proofs.main.Tie as tie
 
 abbrev invariant-loop : tie.invariant-loop
-invariant-loop deck₀ out₀ turns₀ deck out turns = (length deck ≡ 60_001) × (length out ≡ hydrographSize)
+invariant-loop deck₀ out₀ turns₀ deck out turns = (length deck ≡ 60_001) × (length out ≡ hydrograph_size)
 
 abbrev decreases-loop : tie.decreases-loop
 decreases-loop deck₀ out₀ turns₀ deck out turns = turns

@@ -6,12 +6,12 @@ use native.Mathlib.Omega.{arith}
 use native.Mathlib.Nat.{le_refl}
 use borrow.Author.Rules.{rules}
 use Rattle.records.specs.Rows.{items}
-use Rattle.kinds.specs.Masks.{maskOn, mask_next, mask_end, mask-small}
+use Rattle.kinds.specs.Masks.{mask_on, mask_next, mask_end, mask_small}
 use Rattle.kinds.proofs.mask_of.Statement.{statement}
 use Rattle.kinds.proofs.mask_of.Tie as tie
 
 abbrev invariant-loop : tie.invariant-loop
-invariant-loop cards mask₀ left₀ mask left = (left ≤ items) × (mask ≡ maskOn cards left)
+invariant-loop cards mask₀ left₀ mask left = (left ≤ items) × (mask ≡ mask_on cards left)
 
 abbrev decreases-loop : tie.decreases-loop
 decreases-loop cards mask₀ left₀ mask left = left
@@ -20,10 +20,10 @@ loop-holds : tie.Need-loop-init invariant-loop decreases-loop
 loop-holds c = (search rules, sym (mask_end [] c.before.args.cards.now items (le_refl items)))
 
 mul-mask : tie.Need-overflow-mul-mask invariant-loop decreases-loop
-mul-mask c = let l = c.before.loop in omega (arith, l.invariant.1, mask-small [] c.before.before.before.args.cards.now l.left)
+mul-mask c = let l = c.before.loop in omega (arith, l.invariant.1, mask_small [] c.before.before.before.args.cards.now l.left)
 
 add-mask : tie.Need-overflow-add-mask invariant-loop decreases-loop
-add-mask c = let l = c.before.before.loop in omega (arith, l.invariant.1, mask-small [] c.before.before.before.before.args.cards.now l.left, c.bit_at.ensures.1)
+add-mask c = let l = c.before.before.loop in omega (arith, l.invariant.1, mask_small [] c.before.before.before.before.args.cards.now l.left, c.bit_at.ensures.1)
 
 loop-again : tie.Need-loop-preserved invariant-loop decreases-loop
 loop-again c =

@@ -5,14 +5,14 @@ use mathlib.Core.List.{List, ◌++◌}
 use native.Mathlib.Omega.{arith}
 use lib.ListN.{length, take, replicate}
 use borrow.Author.Rules.{rules}
-use Rattle.sequences.specs.Parts.{part, length_part, put, put-tail}
+use Rattle.sequences.specs.Parts.{part, length_part, put, put_tail}
 use Rattle.lending.proofs.clear_from.Statement.{statement}
 use Rattle.lending.proofs.clear_from.Tie as tie
 
 cleared : (a : ℕ) (xs ys : List ℕ) → a ≤ length xs → ys ≡ replicate (length (part a (length xs - a) xs)) 0 → put a (length xs - a) xs ys ≡ take a xs ++ replicate (length xs - a) 0
 cleared a xs ys h e =
     let fits : a + (length xs - a) ≤ length xs = omega arith in
-    put-tail a xs ys ∙ rw (e, length_part a (length xs - a) xs fits)
+    put_tail a xs ys ∙ rw (e, length_part a (length xs - a) xs fits)
 
 returns : tie.Need-returns
 returns c =

@@ -6,28 +6,28 @@ use native.Mathlib.Omega.{arith}
 use lib.ListN.{length, take}
 use lib.Seq.{length-take-le}
 use borrow.Author.Rules.{rules}
-use Rattle.meaning.specs.Blocks.{orWhole}
+use Rattle.meaning.specs.Blocks.{or_whole}
 use Rattle.lending.proofs.count_of.Statement.{statement}
 use Rattle.lending.proofs.count_of.Tie as tie
 
-some-listed : (rs : List ℕ) → 0 < length rs → length (orWhole rs) ≡ length rs
-some-listed [] h = absurd (omega arith)
-some-listed (r ∷ rs) h = refl
+some_listed : (rs : List ℕ) → 0 < length rs → length (or_whole rs) ≡ length rs
+some_listed [] h = absurd (omega arith)
+some_listed (r ∷ rs) h = refl
 
-counted : (n : ℕ) (rs : List ℕ) → 0 < n → n ≤ length rs → n ≡ length (orWhole (take n rs))
+counted : (n : ℕ) (rs : List ℕ) → 0 < n → n ≤ length rs → n ≡ length (or_whole (take n rs))
 counted n rs some enough =
     let long = length-take-le n rs enough in
-    sym (some-listed (take n rs) (omega arith) ∙ long)
+    sym (some_listed (take n rs) (omega arith) ∙ long)
 
-none-counted : (n : ℕ) (rs : List ℕ) → n ≡ 0 → 1 ≡ length (orWhole (take n rs))
-none-counted n rs e = rw e
+none_counted : (n : ℕ) (rs : List ℕ) → n ≡ 0 → 1 ≡ length (or_whole (take n rs))
+none_counted n rs e = rw e
 
 above : (n : ℕ) → (n ≡ 0 → ⊥) → 0 < n
 above zero h = absurd (h refl)
 above (suc n) h = omega arith
 
 returns : tie.Need-returns
-returns c = let x = c.before.before.args in none-counted x.ratios.count x.ratios.values c.if1.true
+returns c = let x = c.before.before.args in none_counted x.ratios.count x.ratios.values c.if1.true
 
 returns-2 : tie.Need-returns-2
 returns-2 c =

@@ -3,38 +3,38 @@ use mathlib.Core.Path.{◌≡◌, sym, ◌∙◌}
 use mathlib.Core.Bool.{Bool, true, false}
 use borrow.Author.Rules.{rules}
 use Rattle.turns.specs.declared.Worked.{Worked}
-use Rattle.passes.specs.Apart.{comesFirst}
-use Rattle.lending.specs.Sooner.{soonerBy}
+use Rattle.passes.specs.Apart.{comes_first}
+use Rattle.lending.specs.Sooner.{sooner_by}
 use Rattle.lending.proofs.sooner.Statement.{statement}
 use Rattle.lending.proofs.sooner.Tie as tie
 
 -- the one found, or the next one, by the tests
 module _ (next found first : Bool) (w v : Worked) where
-  still-found : next ≡ true → found ≡ true → first ≡ true → w ≡ soonerBy next found first w v
-  still-found a b c = rw (a, b, c)
+  still_found : next ≡ true → found ≡ true → first ≡ true → w ≡ sooner_by next found first w v
+  still_found a b c = rw (a, b, c)
 
-  next-first : next ≡ true → found ≡ true → first ≡ false → v ≡ soonerBy next found first w v
-  next-first a b c = rw (a, b, c)
+  next_first : next ≡ true → found ≡ true → first ≡ false → v ≡ sooner_by next found first w v
+  next_first a b c = rw (a, b, c)
 
-  next-alone : next ≡ true → found ≡ false → v ≡ soonerBy next found first w v
+  next-alone : next ≡ true → found ≡ false → v ≡ sooner_by next found first w v
   next-alone a b = rw (a, b)
 
-  none-next : next ≡ false → w ≡ soonerBy next found first w v
-  none-next a = rw a
+  none_next : next ≡ false → w ≡ sooner_by next found first w v
+  none_next a = rw a
 
 abbrev first-is : Worked → Worked → Bool
-first-is w v = comesFirst w.number w.line v.number v.line
+first-is w v = comes_first w.number w.line v.number v.line
 
 returns : tie.Need-returns
 returns c =
     let x = c.before.before.before.before.args in
-    still-found x.next.refused x.found.refused (first-is x.found x.next) x.found x.next c.before.before.before.if1.true c.before.before.if2.true
+    still_found x.next.refused x.found.refused (first-is x.found x.next) x.found x.next c.before.before.before.if1.true c.before.before.if2.true
     (sym c.before.is-first.ensures ∙ c.if3.true)
 
 returns-2 : tie.Need-returns-2
 returns-2 c =
     let x = c.before.before.before.before.args in
-    next-first x.next.refused x.found.refused (first-is x.found x.next) x.found x.next c.before.before.before.if1.true c.before.before.if2.true
+    next_first x.next.refused x.found.refused (first-is x.found x.next) x.found x.next c.before.before.before.if1.true c.before.before.if2.true
     (sym c.before.is-first.ensures ∙ c.if3.false)
 
 returns-3 : tie.Need-returns-3
@@ -45,7 +45,7 @@ returns-3 c =
 returns-4 : tie.Need-returns-4
 returns-4 c =
     let x = c.before.args in
-    none-next x.next.refused x.found.refused (first-is x.found x.next) x.found x.next c.if1.false
+    none_next x.next.refused x.found.refused (first-is x.found x.next) x.found x.next c.if1.false
 
 pub sooner-spec : {M : Type 1} → statement M
 sooner-spec = tie.close (tie.spec (λ c κs. search rules) returns returns-2 returns-3 returns-4)

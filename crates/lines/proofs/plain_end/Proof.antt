@@ -4,7 +4,7 @@ use mathlib.Core.Path.{◌≡◌}
 use native.Mathlib.Omega.{arith}
 use lib.ListN.{length, drop}
 use borrow.Author.Rules.{rules}
-use Rattle.sequences.specs.Choices.{in-range, below-range, above-range}
+use Rattle.sequences.specs.Choices.{in_range, below_range, above_range}
 use Rattle.sequences.specs.Runs.{run, run_more, run-stop, run_end}
 use Rattle.lines.specs.Line.{is_plain}
 use Rattle.lines.proofs.plain_end.Statement.{statement}
@@ -19,17 +19,17 @@ decreases-loop s at i₀ i = length s - i
 returns : tie.Need-returns invariant-loop decreases-loop
 returns c =
     let p = c.before.before.before in
-    omega (arith, run-stop is_plain p.before.args.s.now p.loop.i (search rules) (below-range 0x20 0x7E _ c.if1.true))
+    omega (arith, run-stop is_plain p.before.args.s.now p.loop.i (search rules) (below_range 0x20 0x7E _ c.if1.true))
 
 returns-2 : tie.Need-returns-2 invariant-loop decreases-loop
 returns-2 c =
     let p = c.before.before.before.before in
-    omega (arith, run-stop is_plain p.before.args.s.now p.loop.i (search rules) (above-range 0x20 0x7E _ c.if2.true))
+    omega (arith, run-stop is_plain p.before.args.s.now p.loop.i (search rules) (above_range 0x20 0x7E _ c.if2.true))
 
 loop-again : tie.Need-loop-preserved invariant-loop decreases-loop
 loop-again c =
     let p = c.before.before.before.before in
-    omega (arith, run_more is_plain p.before.args.s.now p.loop.i (search rules) (in-range 0x20 0x7E _ c.before.if1.false c.if2.false))
+    omega (arith, run_more is_plain p.before.args.s.now p.loop.i (search rules) (in_range 0x20 0x7E _ c.before.if1.false c.if2.false))
 
 returns-3 : tie.Need-returns-3 invariant-loop decreases-loop
 returns-3 c = omega (arith, run_end is_plain c.before.before.args.s.now c.before.loop.i (search rules))

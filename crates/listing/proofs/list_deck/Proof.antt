@@ -1,4 +1,4 @@
--- What the engine answers prints the deck's listing, by `accepted-prints` and `refused-prints`: the records of no more blocks and ratios than are lent for, or the one line.
+-- What the engine answers prints the deck's listing, by `accepted_prints` and `refused_prints`: the records of no more blocks and ratios than are lent for, or the one line.
 use mathlib.Core.Path.{◌≡◌, sym}
 use mathlib.Core.List.{List}
 use Prim.Native.Nat.{ℕ}
@@ -6,8 +6,8 @@ use native.Mathlib.Omega.{arith}
 use lib.ListN.{length}
 use lib.Seq.{length-take-le}
 use borrow.Author.Rules.{rules}
-use Rattle.text.specs.Counted.{written-counted}
-use Rattle.listing.specs.Printed.{few-roomy, accepted-few, accepted-prints, refused-prints}
+use Rattle.text.specs.Counted.{written_counted}
+use Rattle.listing.specs.Printed.{few_roomy, accepted_few, accepted_prints, refused_prints}
 use Rattle.listing.proofs.list_deck.Statement.{statement}
 use Rattle.listing.proofs.list_deck.Tie as tie
 
@@ -38,8 +38,8 @@ write-listing-requires : tie.Need-write-listing-requires
 write-listing-requires c κs =
     let told = c.before.before.before.before in
     let r = ran told in
-    few-roomy _ _
-    (accepted-few (deck r) r.run-listed.result.answer r.run-listed.ensures.0 (omega arith) (omega arith) (omega arith) told.answer.given.1 (omega arith) r.run-listed.ensures.1.0)
+    few_roomy _ _
+    (accepted_few (deck r) r.run-listed.result.answer r.run-listed.ensures.0 (omega arith) (omega arith) (omega arith) told.answer.given.1 (omega arith) r.run-listed.ensures.1.0)
     _ _ (omega arith) (omega arith)
 
 returns : tie.Need-returns
@@ -48,9 +48,9 @@ returns c =
     let r = ran told in
     let w = c.before.before.write-listing.ensures in
     let printed =
-    accepted-prints (deck r) r.run-listed.result.answer r.run-listed.ensures.0 (omega arith) (omega arith) (omega arith) told.answer.given.1 w (omega arith)
+    accepted_prints (deck r) r.run-listed.result.answer r.run-listed.ensures.0 (omega arith) (omega arith) (omega arith) told.answer.given.1 w (omega arith)
     r.run-listed.ensures.1.0 in
-    (printed, written-counted w)
+    (printed, written_counted w)
 
 returns-2 : tie.Need-returns-2
 returns-2 c =
@@ -58,8 +58,8 @@ returns-2 c =
     let r = told.before.before.before.before.before.before.before in
     let w = c.before.before.write-refusal.ensures in
     let printed =
-    refused-prints (deck r) r.run-listed.result.answer r.run-listed.ensures.0 (omega arith) (omega arith) (omega arith) told.answer2.given.1 w (omega arith) (omega arith) in
-    (printed, written-counted w)
+    refused_prints (deck r) r.run-listed.result.answer r.run-listed.ensures.0 (omega arith) (omega arith) (omega arith) told.answer2.given.1 w (omega arith) (omega arith) in
+    (printed, written_counted w)
 
 pub list-deck-spec : {M : Type 1} → statement M
 list-deck-spec =

@@ -5,10 +5,10 @@ use native.Mathlib.Omega.{arith}
 use borrow.Author.Rules.{rules}
 use Prim.Native.Nat.{◌*◌}
 use Rattle.meaning.specs.Records.{LU}
-use Rattle.meaning.specs.Water.{tenThousandth}
-use Rattle.meaning.specs.Blocks.{initialLoss, uniformLoss}
+use Rattle.meaning.specs.Water.{ten_thousandth}
+use Rattle.meaning.specs.Blocks.{initial_loss, uniform_loss}
 use Rattle.blocks.specs.Cards.{block_of}
-use Rattle.making.specs.Kinds.{loss-is}
+use Rattle.making.specs.Kinds.{loss_is}
 use Rattle.making.proofs.loss_of.Statement.{statement}
 use Rattle.making.proofs.loss_of.Tie as tie
 
@@ -22,9 +22,9 @@ returns : tie.Need-returns
 returns c = λ name.
     let x = c.before.before.before.before.before.args in
     let b = block_of name x.cards.now in
-    let initial : c.before.before.depth-of.result.0 ≡ initialLoss b * tenThousandth = omega (arith, c.before.before.depth-of.ensures, c.before.before.before.value-at.ensures name) in
-    let uniform : c.uniform-loss.result.0 ≡ x.time.minutes * uniformLoss b = c.uniform-loss.ensures ∙ rw (c.before.value-at2.ensures name) in
-    loss-is _ _ _ initial uniform
+    let initial : c.before.before.depth-of.result.0 ≡ initial_loss b * ten_thousandth = omega (arith, c.before.before.depth-of.ensures, c.before.before.before.value-at.ensures name) in
+    let uniform : c.uniform-loss.result.0 ≡ x.time.minutes * uniform_loss b = c.uniform-loss.ensures ∙ rw (c.before.value-at2.ensures name) in
+    loss_is _ _ _ initial uniform
 
 pub loss-of-spec : {M : Type 1} → statement M
 loss-of-spec = tie.close (tie.spec (λ c κs. search rules) depth-of-requires (λ c κs. search rules) uniform-loss-requires returns)

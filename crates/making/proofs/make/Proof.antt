@@ -5,17 +5,17 @@ use mathlib.Core.Path.{◌≡◌, refl}
 use mathlib.Core.Bool.{false}
 use mathlib.Core.List.{List}
 use borrow.Author.Rules.{rules}
-use Rattle.meaning.specs.Blocks.{overtopsBy}
-use Rattle.meaning.specs.Run.{takenBy}
-use Rattle.blocks.specs.Meant.{timeIs}
+use Rattle.meaning.specs.Blocks.{overtops_by}
+use Rattle.meaning.specs.Run.{taken_by}
+use Rattle.blocks.specs.Meant.{time_is}
 use Rattle.blocks.specs.Cards.{block_of}
 use Rattle.kinds.specs.declared.Kind.{Kind}
-use Rattle.kinds.specs.Kinds.{kindMeant}
+use Rattle.kinds.specs.Kinds.{kind_meant}
 use Rattle.stack.specs.declared.Stack.{Stack}
 use Rattle.stack.specs.View.{view}
-use Rattle.shaping.specs.Shapes.{none-refused}
+use Rattle.shaping.specs.Shapes.{none_refused}
 use Rattle.making.specs.declared.Made.{Made}
-use Rattle.making.specs.Made.{Makes, MakesAll, madeDry, all-dry}
+use Rattle.making.specs.Made.{Makes, MakesAll, made_dry, all_dry}
 use Rattle.making.proofs.make.Statement.{statement}
 use Rattle.making.proofs.make.Tie as tie
 
@@ -38,15 +38,15 @@ returns : tie.Need-returns
 returns c = λ name.
     let s = c.before.before.before.before.before in
     let x = s.args in
-    absurd (none-refused (timeIs x.time) (block_of name x.cards.now) x.held.depth (rw c.before.enum_told.given.1 at (s.requires.1.1 name)))
+    absurd (none_refused (time_is x.time) (block_of name x.cards.now) x.held.depth (rw c.before.enum_told.given.1 at (s.requires.1.1 name)))
 
 -- an arm whose block is no pond: what its function made is all, and dry
-arm : (s : tie.Start) (name : List ℕ) {k : Kind} {next : Stack} {r : Made} {w : List ℕ} → let x = s.args in let τ = timeIs x.time in let b = block_of name x.cards.now in
-    x.kind ≡ k → overtopsBy (kindMeant k) τ b (takenBy b (view x.held τ.ordinates x.work.now)) ≡ false → Makes τ b x.held x.work.now next w → r ≡ madeDry next
+arm : (s : tie.Start) (name : List ℕ) {k : Kind} {next : Stack} {r : Made} {w : List ℕ} → let x = s.args in let τ = time_is x.time in let b = block_of name x.cards.now in
+    x.kind ≡ k → overtops_by (kind_meant k) τ b (taken_by b (view x.held τ.ordinates x.work.now)) ≡ false → Makes τ b x.held x.work.now next w → r ≡ made_dry next
     → MakesAll τ b x.held x.work.now r w
 arm s name e none made dry =
     let x = s.args in
-    all-dry (timeIs x.time) (block_of name x.cards.now) x.held x.work.now (rw e at (s.requires.1.1 name).is) none made dry
+    all_dry (time_is x.time) (block_of name x.cards.now) x.held x.work.now (rw e at (s.requires.1.1 name).is) none made dry
 
 returns-2 : tie.Need-returns-2
 returns-2 c = λ name.

@@ -5,14 +5,14 @@ use native.Mathlib.Omega.{arith}
 use borrow.Author.Rules.{rules}
 use Rattle.meaning.specs.Records.{UI}
 use Rattle.meaning.specs.Blocks.{Basin}
-use Rattle.blocks.specs.Meant.{timeIs}
+use Rattle.blocks.specs.Meant.{time_is}
 use Rattle.blocks.specs.Cards.{block_of}
-use Rattle.blocks.specs.Values.{values-few}
-use Rattle.runoff.specs.Storm.{stormRunoff}
+use Rattle.blocks.specs.Values.{values_few}
+use Rattle.runoff.specs.Storm.{storm_runoff}
 use Rattle.stack.specs.View.{view}
-use Rattle.stack.specs.Kinds.{blockRunoff, after-basin}
-use Rattle.making.specs.Made.{makes-by}
-use Rattle.making.specs.Kinds.{storm-read, room-for-one}
+use Rattle.stack.specs.Kinds.{block_runoff, after-basin}
+use Rattle.making.specs.Made.{makes_by}
+use Rattle.making.specs.Kinds.{storm-read, room_for_one}
 use Rattle.making.proofs.make_basin.Statement.{statement}
 use Rattle.making.proofs.make_basin.Tie as tie
 
@@ -22,22 +22,22 @@ hold-basin-requires c κs =
     let x = s.args in
     let read = s.requires.1.0 in
     let b = block_of [] x.cards.now in
-    let storm = storm-read (timeIs x.time) b read.time read.cards (values-few UI [] x.cards.now (omega arith) read.words.long) in
-    (room-for-one {k = Basin} (timeIs x.time) b _ _ refl (s.requires.1.1 []) s.requires.0.fits, rw (c.before.before.values.ensures [], c.before.values2.ensures [], c.before.before.before.storm-of.ensures []) storm)
+    let storm = storm-read (time_is x.time) b read.time read.cards (values_few UI [] x.cards.now (omega arith) read.words.long) in
+    (room_for_one {k = Basin} (time_is x.time) b _ _ refl (s.requires.1.1 []) s.requires.0.fits, rw (c.before.before.values.ensures [], c.before.values2.ensures [], c.before.before.before.storm-of.ensures []) storm)
 
 returns : tie.Need-returns
 returns c = λ name.
     let s = c.before.before.before.before.before.before.before.before.before.before in
     let x = s.args in
-    let τ = timeIs x.time in
+    let τ = time_is x.time in
     let b = block_of name x.cards.now in
     let e = (s.requires.1.1 name).is in
     let h = c.before.before.hold-basin.ensures in
     let q = c.before.before.before.before in
-    let runoff : stormRunoff q.before.values.result.now q.values2.result.now q.before.before.storm-of.result x.time.ordinates ≡ blockRunoff τ b =
+    let runoff : storm_runoff q.before.values.result.now q.values2.result.now q.before.before.storm-of.result x.time.ordinates ≡ block_runoff τ b =
     rw (q.before.values.ensures name, q.values2.ensures name, q.before.before.storm-of.ensures name) in
     let area = q.before.before.before.area_of.ensures name in
-    makes-by τ b x.held x.work.now e (h.0 ∙ rw area) (h.1.0 ∙ rw runoff) (h.1.1 ∙ rw (area, runoff) (sym (after-basin τ b (view x.held x.time.ordinates x.work.now) e)))
+    makes_by τ b x.held x.work.now e (h.0 ∙ rw area) (h.1.0 ∙ rw runoff) (h.1.1 ∙ rw (area, runoff) (sym (after-basin τ b (view x.held x.time.ordinates x.work.now) e)))
 
 pub make-basin-spec : {M : Type 1} → statement M
 make-basin-spec =

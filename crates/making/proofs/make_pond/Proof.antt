@@ -7,14 +7,14 @@ use borrow.Author.Rules.{rules}
 use lib.ListN.{take}
 use Rattle.meaning.specs.Pool.{rows_of}
 use Rattle.meaning.specs.Records.{SV}
-use Rattle.meaning.specs.Blocks.{total, pondRows}
-use Rattle.blocks.specs.Meant.{timeIs}
+use Rattle.meaning.specs.Blocks.{total, pond_rows}
+use Rattle.blocks.specs.Meant.{time_is}
 use Rattle.blocks.specs.Cards.{block_of}
-use Rattle.blocks.specs.Values.{values-few}
+use Rattle.blocks.specs.Values.{values_few}
 use Rattle.stack.specs.View.{view}
 use Rattle.stack.specs.Kinds.{after-pond}
-use Rattle.shaping.specs.Shapes.{takes-by, shaped-passes, pond-shaped}
-use Rattle.making.specs.Made.{makes-by, over_by}
+use Rattle.shaping.specs.Shapes.{takes-by, shaped_passes, pond_shaped}
+use Rattle.making.specs.Made.{makes_by, over_by_lem}
 use Rattle.making.proofs.make_pond.Statement.{statement}
 use Rattle.making.proofs.make_pond.Tie as tie
 
@@ -22,12 +22,12 @@ pond-last-requires : tie.Need-pond-last-requires
 pond-last-requires c κs =
     let s = c.before.before.before.before.before in
     let x = s.args in
-    let τ = timeIs x.time in
+    let τ = time_is x.time in
     let b = block_of [] x.cards.now in
     let read = s.requires.1.0 in
-    let some : 1 ≤ x.held.depth = (shaped-passes τ b x.held.depth (s.requires.1.1 [])).enough in
-    let few = values-few SV [] x.cards.now (omega arith) read.words.long in
-    let table = pond-shaped τ b x.held.depth (s.requires.1.1 []) read.time read.cards few in
+    let some : 1 ≤ x.held.depth = (shaped_passes τ b x.held.depth (s.requires.1.1 [])).enough in
+    let few = values_few SV [] x.cards.now (omega arith) read.words.long in
+    let table = pond_shaped τ b x.held.depth (s.requires.1.1 []) read.time read.cards few in
     ((some, s.requires.0.fits), (s.requires.0.flows, rw (c.before.before.values.ensures [], c.before.values2.ensures []) table))
 
 -- where the pool was passed: behind the entry
@@ -36,7 +36,7 @@ entry c = c.before.before.before.before.before.before
 
 -- the rows that were lent are the block's own
 rows : (c : tie.After-pond-last) (name : List ℕ) → let x = c.before.before.before.before.before.before.args in
-    rows_of c.before.before.before.values.result.now c.before.before.values2.result.now ≡ pondRows (block_of name x.cards.now)
+    rows_of c.before.before.before.values.result.now c.before.before.values2.result.now ≡ pond_rows (block_of name x.cards.now)
 rows c name = rw (c.before.before.before.values.ensures name, c.before.before.values2.ensures name)
 
 returns : tie.Need-returns
@@ -44,17 +44,17 @@ returns c =
     let q = c.before.before in
     let s = entry q in
     let x = s.args in
-    let τ = timeIs x.time in
+    let τ = time_is x.time in
     let held = view x.held x.time.ordinates x.work.now in
     let h = q.pond-last.ensures in (
       λ name.
           let b = block_of name x.cards.now in
           let e = (s.pre.1.1 name).is in
-          h.0 ∙ rw (rows q name, takes-by b e) (sym (over_by τ b (total (take 1 held)) e)),
+          h.0 ∙ rw (rows q name, takes-by b e) (sym (over_by_lem τ b (total (take 1 held)) e)),
       λ name.
           let b = block_of name x.cards.now in
           let e = (s.pre.1.1 name).is in
-          makes-by τ b x.held x.work.now e refl (h.1.0 ∙ rw (rows q name)) (h.1.1 ∙ rw (rows q name) (sym (after-pond τ b held e))),
+          makes_by τ b x.held x.work.now e refl (h.1.0 ∙ rw (rows q name)) (h.1.1 ∙ rw (rows q name) (sym (after-pond τ b held e))),
     )
 
 pub make-pond-spec : {M : Type 1} → statement M

@@ -7,8 +7,8 @@ use native.Mathlib.Omega.{arith}
 use borrow.Author.Rules.{rules}
 use Rattle.sequences.specs.Choices.{taken, passed}
 use Rattle.meaning.specs.Records.{PB}
-use Rattle.meaning.specs.Water.{tenThousandth}
-use Rattle.meaning.specs.Blocks.{isGiven, cardOf, stormTotal}
+use Rattle.meaning.specs.Water.{ten_thousandth}
+use Rattle.meaning.specs.Blocks.{is_given, card_of, storm_total}
 use Rattle.blocks.specs.Cards.{block_of}
 use Rattle.excess.specs.declared.Total.TheVariants.{NotGiven, Given}
 use Rattle.making.proofs.total_of.Statement.{statement}
@@ -20,8 +20,8 @@ depth-of-requires c κs = omega (arith, c.value-at.ensures [], (c.before.before.
 returns : tie.Need-returns
 returns c = λ name.
     let b = block_of name c.before.before.before.before.before.args.cards.now in
-    let total : c.depth-of.result.0 ≡ stormTotal b * tenThousandth = omega (arith, c.depth-of.ensures, c.before.value-at.ensures name) in
-    let given : isGiven (cardOf PB b) ≡ true = sym (c.before.before.before.is-given.ensures name) ∙ c.before.before.if1.true in
+    let total : c.depth-of.result.0 ≡ storm_total b * ten_thousandth = omega (arith, c.depth-of.ensures, c.before.value-at.ensures name) in
+    let given : is_given (card_of PB b) ≡ true = sym (c.before.before.before.is-given.ensures name) ∙ c.before.before.if1.true in
     taken _ given (ap (λ (n : ℕ). Given (record { 0 = n })) total)
 
 returns-2 : tie.Need-returns-2

@@ -3,53 +3,53 @@ use Prim.Native.Nat.{◌+◌, ◌-◌, ◌≤◌}
 use mathlib.Core.Path.{◌≡◌, sym, ◌∙◌}
 use native.Mathlib.Omega.{arith}
 use lib.ListN.{length, drop}
-use Rattle.meaning.specs.Results.{recordSize}
-use Rattle.meaning.specs.Moving.{recordsIn}
+use Rattle.meaning.specs.Results.{record_size}
+use Rattle.meaning.specs.Moving.{records_in}
 use Rattle.sequences.specs.Parts.{part, length_part}
-use Rattle.forms.specs.Fault.{faultOf}
-use Rattle.moving.specs.Faults.{oldFaults, faultAfter, pass-starts, pass-stops, pass-goes, pass-ends}
+use Rattle.forms.specs.Fault.{fault_of}
+use Rattle.moving.specs.Faults.{old_faults, fault_after, pass_starts, pass_stops, pass_goes, pass_ends}
 use Rattle.moving.proofs.find_fault.Statement.{statement}
 use Rattle.moving.proofs.find_fault.Tie as tie
 
 abbrev invariant-loop : tie.invariant-loop
-invariant-loop file found₀ at₀ found at = (faultAfter found (recordsIn recordSize (drop at file)) ≡ oldFaults (recordsIn recordSize file)) × (at ≤ length file)
+invariant-loop file found₀ at₀ found at = (fault_after found (records_in record_size (drop at file)) ≡ old_faults (records_in record_size file)) × (at ≤ length file)
 
 abbrev decreases-loop : tie.decreases-loop
 decreases-loop file found₀ at₀ found at = length file - at
 
 loop-holds : tie.Need-loop-init invariant-loop decreases-loop
-loop-holds c = (pass-starts c.before.args.file.now, omega arith)
+loop-holds c = (pass_starts c.before.args.file.now, omega arith)
 
 fault-of-requires : tie.Need-fault-of-requires invariant-loop decreases-loop
 fault-of-requires c κs =
     let p = c.before.before.loop.at in
-    let n : p + recordSize - p ≡ recordSize = omega arith in
-    rw n (length_part p recordSize c.before.before.before.before.args.file.now c.before.loop-test.true)
+    let n : p + record_size - p ≡ record_size = omega arith in
+    rw n (length_part p record_size c.before.before.before.before.args.file.now c.before.loop-test.true)
 
 -- what the record at a place is refused for
-told : (c : tie.After-fault-of invariant-loop decreases-loop) → c.fault-of.result ≡ faultOf (part c.before.before.before.loop.at recordSize c.before.before.before.before.before.args.file.now)
+told : (c : tie.After-fault-of invariant-loop decreases-loop) → c.fault-of.result ≡ fault_of (part c.before.before.before.loop.at record_size c.before.before.before.before.before.args.file.now)
 told c =
     let p = c.before.before.before.loop.at in
-    let n : p + recordSize - p ≡ recordSize = omega arith in
+    let n : p + record_size - p ≡ record_size = omega arith in
     rw n at c.fault-of.ensures
 
 returns : tie.Need-returns invariant-loop decreases-loop
 returns c =
     let test = c.before.before.before in
     let l = test.before.loop in
-    c.if1.true ∙ sym (pass-stops l.found test.before.before.before.args.file.now l.at test.loop-test.true (sym (told c.before) ∙ c.if1.true)) ∙ l.invariant.0
+    c.if1.true ∙ sym (pass_stops l.found test.before.before.before.args.file.now l.at test.loop-test.true (sym (told c.before) ∙ c.if1.true)) ∙ l.invariant.0
 
 loop-again : tie.Need-loop-preserved invariant-loop decreases-loop
 loop-again c =
     let test = c.before.before.before.before in
     let l = test.before.loop in
-    let turn = pass-goes l.found test.before.before.before.args.file.now l.at test.loop-test.true (told c.before.before) c.before.if1.false c.keep-first.ensures in
+    let turn = pass_goes l.found test.before.before.before.args.file.now l.at test.loop-test.true (told c.before.before) c.before.if1.false c.keep-first.ensures in
     (sym turn ∙ l.invariant.0, omega arith)
 
 returns-2 : tie.Need-returns-2 invariant-loop decreases-loop
 returns-2 c =
     let l = c.before.loop in
-    sym (pass-ends l.found c.before.before.before.args.file.now l.at c.loop-test.false) ∙ l.invariant.0
+    sym (pass_ends l.found c.before.before.before.args.file.now l.at c.loop-test.false) ∙ l.invariant.0
 
 pub find-fault-spec : {M : Type 1} → statement M
 find-fault-spec =

@@ -3,19 +3,19 @@ use Prim.Native.Nat.{◌%◌}
 use borrow.Author.Tests.{ne_eqb}
 use borrow.Author.Rules.{rules}
 use lib.ListN.{length}
-use Rattle.meaning.specs.Results.{recordSize}
-use Rattle.moving.specs.Ways.{old-way}
-use Rattle.moving.specs.Outcomes.{way-judged}
+use Rattle.meaning.specs.Results.{record_size}
+use Rattle.moving.specs.Ways.{old_way}
+use Rattle.moving.specs.Outcomes.{way_judged}
 use Rattle.moving.proofs.judge_new_file.Statement.{statement}
 use Rattle.moving.proofs.judge_new_file.Tie as tie
 
 returns : tie.Need-returns
-returns c = rw (ne_eqb (length c.before.before.args.file.now % recordSize) 0 c.if1.true)
+returns c = rw (ne_eqb (length c.before.before.args.file.now % record_size) 0 c.if1.true)
 
 returns-2 : tie.Need-returns-2
 returns-2 c =
     let x = c.before.before.before.before.before.args in
-    way-judged old-way x.file.now x.room c.before.before.before.if1.false c.before.before.find-fault.ensures c.before.check-room.ensures c.keep-first.ensures
+    way_judged old_way x.file.now x.room c.before.before.before.if1.false c.before.before.find-fault.ensures c.before.check-room.ensures c.keep-first.ensures
 
 pub judge-new-file-spec : {M : Type 1} → statement M
 judge-new-file-spec =

@@ -3,49 +3,49 @@ use Prim.Native.Nat.{◌+◌, ◌-◌, ◌≤◌}
 use mathlib.Core.Path.{◌≡◌, ap}
 use native.Mathlib.Omega.{arith}
 use lib.ListN.{length}
-use Rattle.meaning.specs.Results.{recordSize, oldRecordSize}
-use Rattle.meaning.specs.Moving.{oldForm}
+use Rattle.meaning.specs.Results.{record_size, old_record_size}
+use Rattle.meaning.specs.Moving.{old_form}
 use Rattle.sequences.specs.Parts.{part, put, length_part}
 use Rattle.forms.specs.Forms.{old-makes}
-use Rattle.moving.specs.Loops.{Moving, moving-starts, moving-fits, moving-goes, moving-ends}
+use Rattle.moving.specs.Loops.{Moving, moving_starts, moving_fits, moving_goes, moving_ends}
 use Rattle.moving.proofs.move_new_file.Statement.{statement}
 use Rattle.moving.proofs.move_new_file.Tie as tie
 
 abbrev invariant-loop : tie.invariant-loop
-invariant-loop file room₀ q₀ p₀ room q p = Moving oldForm recordSize file room₀ room p q
+invariant-loop file room₀ q₀ p₀ room q p = Moving old_form record_size file room₀ room p q
 
 abbrev decreases-loop : tie.decreases-loop
 decreases-loop file room₀ q₀ p₀ room q p = length file - p
 
 loop-holds : tie.Need-loop-init invariant-loop decreases-loop
-loop-holds c = moving-starts oldForm recordSize oldRecordSize (omega arith) old-makes c.before.before.args.file.now c.before.before.args.room.now
+loop-holds c = moving_starts old_form record_size old_record_size (omega arith) old-makes c.before.before.args.file.now c.before.before.args.room.now
 
 -- there is room for the next record
-fits : (c : tie.In-loop invariant-loop decreases-loop) → c.before.loop.q + oldRecordSize ≤ length c.before.loop.room
+fits : (c : tie.In-loop invariant-loop decreases-loop) → c.before.loop.q + old_record_size ≤ length c.before.loop.room
 fits c =
     let l = c.before.loop in
     let start = c.before.before.before.before in
     let x = start.args in
-    let room = moving-fits oldForm recordSize oldRecordSize (omega arith) old-makes x.file.now x.room.now l.room l.p l.q l.invariant c.loop-test.true start.requires in
+    let room = moving_fits old_form record_size old_record_size (omega arith) old-makes x.file.now x.room.now l.room l.p l.q l.invariant c.loop-test.true start.requires in
     omega (arith, l.invariant.long)
 
 put-old-requires : tie.Need-put-old-requires invariant-loop decreases-loop
 put-old-requires c κs =
     let l = c.before.before.before.loop in
-    let m : l.q + oldRecordSize - l.q ≡ oldRecordSize = omega arith in
-    let n : l.p + recordSize - l.p ≡ recordSize = omega arith in
+    let m : l.q + old_record_size - l.q ≡ old_record_size = omega arith in
+    let n : l.p + record_size - l.p ≡ record_size = omega arith in
     let test = c.before.before in
-    (rw m (length_part l.q oldRecordSize l.room (fits test)), rw n (length_part l.p recordSize test.before.before.before.before.args.file.now test.loop-test.true))
+    (rw m (length_part l.q old_record_size l.room (fits test)), rw n (length_part l.p record_size test.before.before.before.before.args.file.now test.loop-test.true))
 
 loop-again : tie.Need-loop-preserved invariant-loop decreases-loop
 loop-again c =
     let l = c.before.before.before.before.before.before.loop in
     let x = c.before.before.before.before.before.before.before.before.before.args in
-    let m : l.q + oldRecordSize - l.q ≡ oldRecordSize = omega arith in
-    let n : l.p + recordSize - l.p ≡ recordSize = omega arith in
-    let written : c.before.before.put-old.new.0 ≡ oldForm (part l.p recordSize x.file.now) = rw n at c.before.before.put-old.ensures in
-    moving-goes oldForm recordSize oldRecordSize (omega arith) old-makes x.file.now x.room.now l.room l.p l.q l.invariant _ c.before.before.before.before.before.loop-test.true
-    (omega (arith, l.invariant.long, fits c.before.before.before.before.before)) (rw m (ap (put l.q oldRecordSize l.room) written))
+    let m : l.q + old_record_size - l.q ≡ old_record_size = omega arith in
+    let n : l.p + record_size - l.p ≡ record_size = omega arith in
+    let written : c.before.before.put-old.new.0 ≡ old_form (part l.p record_size x.file.now) = rw n at c.before.before.put-old.ensures in
+    moving_goes old_form record_size old_record_size (omega arith) old-makes x.file.now x.room.now l.room l.p l.q l.invariant _ c.before.before.before.before.before.loop-test.true
+    (omega (arith, l.invariant.long, fits c.before.before.before.before.before)) (rw m (ap (put l.q old_record_size l.room) written))
 
 same_length : tie.Need-same-length invariant-loop decreases-loop
 same_length c = c.before.loop.invariant.long
@@ -54,7 +54,7 @@ returns : tie.Need-returns invariant-loop decreases-loop
 returns c =
     let l = c.before.loop in
     let x = c.before.before.before.before.args in
-    moving-ends oldForm recordSize oldRecordSize (omega arith) old-makes x.file.now x.room.now l.room l.p l.q l.invariant c.loop-test.false
+    moving_ends old_form record_size old_record_size (omega arith) old-makes x.file.now x.room.now l.room l.p l.q l.invariant c.loop-test.false
 
 pub move-new-file-spec : {M : Type 1} → statement M
 move-new-file-spec =

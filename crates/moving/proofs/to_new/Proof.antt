@@ -3,8 +3,8 @@ use mathlib.Core.Path.{◌∙◌}
 use native.Mathlib.Omega.{arith}
 use borrow.Author.Rules.{rules}
 use lib.ListN.{length}
-use Rattle.moving.specs.Ways.{new-way}
-use Rattle.moving.specs.Outcomes.{way-refused, way-moved, way-room}
+use Rattle.moving.specs.Ways.{new_way}
+use Rattle.moving.specs.Outcomes.{way_refused, way_moved, way_room}
 use Rattle.moving.proofs.to_new.Statement.{statement}
 use Rattle.moving.proofs.to_new.Tie as tie
 
@@ -12,20 +12,20 @@ returns : tie.Need-returns
 returns c =
     let test = c.before.before.before.before in
     let x = test.before.before.before.before.args in
-    c.before.before.refuse.ensures ∙ way-refused new-way x.file.now (length x.room.now) test.before.judge-old-file.ensures test.if1.true
+    c.before.before.refuse.ensures ∙ way_refused new_way x.file.now (length x.room.now) test.before.judge-old-file.ensures test.if1.true
 
 move-old-file-requires : tie.Need-move-old-file-requires
 move-old-file-requires c κs =
     let test = c.before in
     let x = test.before.before.before.before.args in
-    way-room new-way x.file.now (length x.room.now) test.before.judge-old-file.ensures test.if1.false
+    way_room new_way x.file.now (length x.room.now) test.before.judge-old-file.ensures test.if1.false
 
 settle-requires : tie.Need-settle-requires
 settle-requires c κs =
     let moved = c.before.before.before in
     let test = moved.before.before in
     let x = test.before.before.before.before.args in
-    let room = way-room new-way x.file.now (length x.room.now) test.before.judge-old-file.ensures test.if1.false in
+    let room = way_room new_way x.file.now (length x.room.now) test.before.judge-old-file.ensures test.if1.false in
     omega (arith, moved.move-old-file.ensures.count, moved.move-old-file.auto.1.0)
 
 returns-2 : tie.Need-returns-2
@@ -34,7 +34,7 @@ returns-2 c =
     let test = moved.before.before in
     let x = test.before.before.before.before.args in
     let call = moved.move-old-file in
-    c.before.before.settle.ensures ∙ way-moved new-way x.file.now x.room.now test.before.judge-old-file.ensures test.if1.false call.auto.1.0 call.ensures
+    c.before.before.settle.ensures ∙ way_moved new_way x.file.now x.room.now test.before.judge-old-file.ensures test.if1.false call.auto.1.0 call.ensures
 
 pub to-new-spec : {M : Type 1} → statement M
 to-new-spec =

@@ -5,20 +5,20 @@ use native.Mathlib.Omega.{arith}
 use borrow.Author.Tests.{eq-eqb, ne_eqb}
 use lib.ListN.{length, take}
 use lib.Seq.{take-length}
-use Rattle.meaning.specs.Fields.{trimEnd}
+use Rattle.meaning.specs.Fields.{trim_end}
 use Rattle.meaning.specs.Numbers.{is_zero}
 use Rattle.sequences.specs.Trimming.{take_none, take_ends, take-pass, take-stop}
 use Rattle.numbers.proofs.places_left.Statement.{statement}
 use Rattle.numbers.proofs.places_left.Tie as tie
 
 abbrev invariant-loop : tie.invariant-loop
-invariant-loop f n₀ n = (n ≤ length f) × (trimEnd is_zero (take n f) ≡ trimEnd is_zero f)
+invariant-loop f n₀ n = (n ≤ length f) × (trim_end is_zero (take n f) ≡ trim_end is_zero f)
 
 abbrev decreases-loop : tie.decreases-loop
 decreases-loop f n₀ n = n
 
 loop-holds : tie.Need-loop-init invariant-loop decreases-loop
-loop-holds c = (omega arith, ap (trimEnd is_zero) (take-length c.args.fraction.now))
+loop-holds c = (omega arith, ap (trim_end is_zero) (take-length c.args.fraction.now))
 
 returns : tie.Need-returns invariant-loop decreases-loop
 returns c =

@@ -6,15 +6,15 @@ use mathlib.Core.List.{List}
 use Prim.Native.Nat.{ℕ, ◌-◌, ◌≤◌, ◌<◌}
 use lib.ListN.{length, drop, get_or}
 use Rattle.meaning.specs.Words.{◌=?◌}
-use Rattle.meaning.specs.Numbers.{decimalOf}
+use Rattle.meaning.specs.Numbers.{decimal_of}
 use Rattle.sequences.specs.Parts.{part, part_to_end}
-use Rattle.numbers.specs.Reading.{numberIs, signLength}
-use Rattle.numbers.specs.FieldNumbers.{blank-number, long-number, behind-sign, sign-one}
+use Rattle.numbers.specs.Reading.{number_is, sign_length}
+use Rattle.numbers.specs.FieldNumbers.{blank_number, long_number, behind_sign, sign_one}
 use Rattle.numbers.proofs.read_number.Statement.{statement}
 use Rattle.numbers.proofs.read_number.Tie as tie
 
 returns : tie.Need-returns
-returns c = blank-number _ c.if1.true
+returns c = blank_number _ c.if1.true
 
 -- What stands behind the sign.
 module _ (c : tie.After-s) where
@@ -24,23 +24,23 @@ module _ (c : tie.After-s) where
   abbrev at : ℕ
   at = c.before.sign-length.result
 
-  behind : part at (length f - at) f ≡ drop (signLength (get_or f 0 0)) f
+  behind : part at (length f - at) f ≡ drop (sign_length (get_or f 0 0)) f
   behind = part_to_end at f ∙ ap (λ (k : ℕ). drop k f) c.before.sign-length.ensures
 
 returns-2 : tie.Need-returns-2
 returns-2 c =
     let long : 10 < length (part (at c.before) (length (f c.before) - at c.before) (f c.before)) = c.if2.true in
-    long-number (f c.before) c.before.before.before.before.if1.false (rw (behind c.before) at long)
+    long_number (f c.before) c.before.before.before.before.if1.false (rw (behind c.before) at long)
 
 sign : (c : tie.After-sign-length) → c.sign-length.result ≤ 1
-sign c = omega (arith, sign-one (get_or c.before.before.before.before.args.f.now 0 0), c.sign-length.ensures)
+sign c = omega (arith, sign_one (get_or c.before.before.before.before.args.f.now 0 0), c.sign-length.ensures)
 
 returns-3 : tie.Need-returns-3
 returns-3 c =
     let p = c.before.before in
     let minus = get_or (f p) 0 0 =? 0x2D in
-    let read : numberIs c.read-unsigned.result ≡ decimalOf minus (part (at p) (length (f p) - at p) (f p)) = c.read-unsigned.ensures in
-    read ∙ ap (decimalOf minus) (behind p) ∙ behind-sign (f p) p.before.before.before.if1.false
+    let read : number_is c.read-unsigned.result ≡ decimal_of minus (part (at p) (length (f p) - at p) (f p)) = c.read-unsigned.ensures in
+    read ∙ ap (decimal_of minus) (behind p) ∙ behind_sign (f p) p.before.before.before.if1.false
 
 pub read-number-spec : {M : Type 1} → statement M
 read-number-spec =

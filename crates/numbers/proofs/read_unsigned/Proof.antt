@@ -6,14 +6,14 @@ use mathlib.Core.Path.{◌≡◌, sym, ◌∙◌, ap}
 use mathlib.Core.List.{List}
 use lib.ListN.{length, take, drop, length-drop}
 use lib.Seq.{length-take-le}
-use Rattle.meaning.specs.Fields.{trimEnd}
+use Rattle.meaning.specs.Fields.{trim_end}
 use Rattle.meaning.specs.Numbers.{is_zero}
 use Rattle.sequences.specs.Parts.{part, part_to_end}
-use Rattle.sequences.specs.Trimming.{trim-within}
+use Rattle.sequences.specs.Trimming.{trim_within}
 use Rattle.numbers.specs.declared.Digits.{Digits}
-use Rattle.numbers.specs.Digits.{ten-below}
-use Rattle.numbers.specs.Reading.{digitsFrom}
-use Rattle.numbers.specs.Decimals.{first_below, read_whole, read-no-point, read-no-fraction, read-not-digits, read-places}
+use Rattle.numbers.specs.Digits.{ten_below}
+use Rattle.numbers.specs.Reading.{digits_from}
+use Rattle.numbers.specs.Decimals.{first_below, read_whole, read_no_point, read_no_fraction, read_not_digits, read-places}
 use Rattle.numbers.proofs.read_unsigned.Statement.{statement}
 use Rattle.numbers.proofs.read_unsigned.Tie as tie
 
@@ -25,7 +25,7 @@ returns c =
 returns-2 : tie.Need-returns-2
 returns-2 c =
     let d = c.before.before.before.read-digits in
-    read-no-point _ c.before.before.before.before.before.args.s.now d.result d.ensures c.before.before.if1.false c.if2.true
+    read_no_point _ c.before.before.before.before.before.args.s.now d.result d.ensures c.before.before.if1.false c.if2.true
 
 returns-3 : tie.Need-returns-3
 returns-3 c =
@@ -33,7 +33,7 @@ returns-3 c =
     let d = p.before.before.before.read-digits in
     let s : List ℕ = p.before.before.before.before.before.args.s.now in
     c.count-digits2.ensures
-    ∙ read-no-fraction _ s d.result d.ensures p.before.before.if1.false p.if2.false (omega (arith, ap length (part_to_end (d.result.end + 1) s), c.before.if3.true))
+    ∙ read_no_fraction _ s d.result d.ensures p.before.before.if1.false p.if2.false (omega (arith, ap length (part_to_end (d.result.end + 1) s), c.before.if3.true))
 
 -- What is left of the fraction, as it is read behind the point.
 module _ (c : tie.After-read-digits-arg) where
@@ -46,7 +46,7 @@ module _ (c : tie.After-read-digits-arg) where
   abbrev whole : Digits
   whole = at-fraction.before.before.before.before.read-digits.result
 
-  whole-read : whole ≡ digitsFrom s 0 0
+  whole-read : whole ≡ digits_from s 0 0
   whole-read = at-fraction.before.before.before.before.read-digits.ensures
 
   abbrev fraction : List ℕ
@@ -58,45 +58,45 @@ module _ (c : tie.After-read-digits-arg) where
   fraction-part : part (whole.end + 1) (length s - (whole.end + 1)) s ≡ fraction
   fraction-part = part_to_end (whole.end + 1) s
 
-  places-told : places ≡ length (trimEnd is_zero fraction)
+  places-told : places ≡ length (trim_end is_zero fraction)
   places-told =
-      let told : places ≡ length (trimEnd is_zero (part (whole.end + 1) (length s - (whole.end + 1)) s)) = c.before.places-left.ensures in
-      told ∙ ap (λ (l : List ℕ). length (trimEnd is_zero l)) fraction-part
+      let told : places ≡ length (trim_end is_zero (part (whole.end + 1) (length s - (whole.end + 1)) s)) = c.before.places-left.ensures in
+      told ∙ ap (λ (l : List ℕ). length (trim_end is_zero l)) fraction-part
 
-  places-within : places ≤ length fraction
-  places-within = omega (arith, places-told, trim-within is_zero fraction)
+  places_within : places ≤ length fraction
+  places_within = omega (arith, places-told, trim_within is_zero fraction)
 
   more : whole.end < length s
   more = at-fraction.before.before.before.if1.left
 
   -- nine bytes at most stand on either side of the point
-  nine-before : whole.end ≤ 9
-  nine-before = search rules
+  nine_before : whole.end ≤ 9
+  nine_before = search rules
 
-  nine-behind : length fraction ≤ 9
-  nine-behind = omega (arith, length-drop (whole.end + 1) s)
+  nine_behind : length fraction ≤ 9
+  nine_behind = omega (arith, length-drop (whole.end + 1) s)
 
   left-length : length (take places (part (whole.end + 1) (length s - (whole.end + 1)) s)) ≡ places
-  left-length = ap (λ (l : List ℕ). length (take places l)) fraction-part ∙ length-take-le places fraction places-within
+  left-length = ap (λ (l : List ℕ). length (take places l)) fraction-part ∙ length-take-le places fraction places_within
 
 read-digits-requires-2 : tie.Need-read-digits-requires-2
 read-digits-requires-2 c κs = (
-  omega (arith, left-length c, places-within c, nine-behind c),
-  omega (arith, first_below (s c) (whole c) (whole-read c), ten-below (whole c).end 9 (nine-before c)),
+  omega (arith, left-length c, places_within c, nine_behind c),
+  omega (arith, first_below (s c) (whole c) (whole-read c), ten_below (whole c).end 9 (nine_before c)),
 )
 
 -- What the second run answers.
 module _ (c : tie.After-read-digits2) where
-  left-read : c.read-digits2.result ≡ digitsFrom (take (places c.before) (fraction c.before)) 0 (whole c.before).value
+  left-read : c.read-digits2.result ≡ digits_from (take (places c.before) (fraction c.before)) 0 (whole c.before).value
   left-read =
       let p = c.before in
-      c.read-digits2.ensures ∙ ap (λ (l : List ℕ). digitsFrom (take (places p) l) 0 (whole p).value) (fraction-part p)
+      c.read-digits2.ensures ∙ ap (λ (l : List ℕ). digits_from (take (places p) l) 0 (whole p).value) (fraction-part p)
 
 returns-4 : tie.Need-returns-4
 returns-4 c =
     let r = c.before.before in
     let p = r.before in
-    read-not-digits _ (s p) (whole p) (whole-read p) (more p) (at-fraction p).before.if2.false (places p) (places-told p) r.read-digits2.result (left-read r) c.if4.true
+    read_not_digits _ (s p) (whole p) (whole-read p) (more p) (at-fraction p).before.if2.false (places p) (places-told p) r.read-digits2.result (left-read r) c.if4.true
 
 returns-5 : tie.Need-returns-5
 returns-5 c =

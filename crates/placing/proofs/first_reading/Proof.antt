@@ -2,7 +2,7 @@
 use Prim.Native.Nat.{zero-le}
 use mathlib.Core.Path.{refl}
 use borrow.Author.Rules.{rules}
-use Rattle.blocks.specs.Values.{counted-readable}
+use Rattle.blocks.specs.Values.{counted_readable}
 use Rattle.placing.proofs.first_reading.Statement.{statement}
 use Rattle.placing.proofs.first_reading.Tie as tie
 
@@ -13,7 +13,7 @@ returns c =
       is = refl;
       phase = refl;
       none-listed = c.before.no-ratios.ensures.0;
-      ready = record { few-ordinates = zero-le; short-name = c.no_name.ensures.1; few-ratios = c.before.no-ratios.ensures.1; readable = counted-readable kept; counted = λ e. kept };
+      ready = record { few_ordinates = zero-le; short-name = c.no_name.ensures.1; few-ratios = c.before.no-ratios.ensures.1; readable = counted_readable kept; counted = λ e. kept };
     }
 
 pub first-reading-spec : {M : Type 1} → statement M

@@ -1,8 +1,8 @@
 -- No record is there, whatever stood in the words before.
 use mathlib.Core.Path.{refl}
 use borrow.Author.Rules.{rules}
-use Rattle.blocks.specs.Values.{counted-readable}
-use Rattle.blocks.specs.Meant.{nameIs}
+use Rattle.blocks.specs.Values.{counted_readable}
+use Rattle.blocks.specs.Meant.{name_is}
 use Rattle.placing.proofs.open_block.Statement.{statement}
 use Rattle.placing.proofs.open_block.Tie as tie
 
@@ -15,10 +15,10 @@ returns c =
     let ready = s.requires.1 in
     let kept = c.before.before.before.clear.ensures.1 s.args.r.time.ordinates ready.few-ordinates in
     record {
-      is = rw (c.before.before.before.clear.ensures.0 (nameIs s.args.name));
+      is = rw (c.before.before.before.clear.ensures.0 (name_is s.args.name));
       phase = refl;
       time = refl;
-      ready = record { few-ordinates = ready.few-ordinates; short-name = s.requires.0; few-ratios = ready.few-ratios; readable = counted-readable kept; counted = λ e. kept };
+      ready = record { few_ordinates = ready.few-ordinates; short-name = s.requires.0; few-ratios = ready.few-ratios; readable = counted_readable kept; counted = λ e. kept };
     }
 
 pub open-block-spec : {M : Type 1} → statement M

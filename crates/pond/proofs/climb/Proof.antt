@@ -3,8 +3,8 @@ use Prim.Native.Nat.{◌-◌, ◌≤◌, ◌<◌}
 use mathlib.Core.Path.{refl}
 use native.Mathlib.Omega.{arith}
 use lib.ListN.{length}
-use Rattle.pond.specs.Levels.{noW}
-use Rattle.pond.specs.Searches.{Passed, passed_none, passed-more, passed-under}
+use Rattle.pond.specs.Levels.{no_w}
+use Rattle.pond.specs.Searches.{Passed, passed_none, passed_more, passed_under}
 use Rattle.pond.proofs.climb.Statement.{statement}
 use Rattle.pond.proofs.climb.Tie as tie
 
@@ -21,8 +21,8 @@ loop-holds c = passed_none c.args.ws.now c.args.row c.args.w c.args.row refl
 under : (c : tie.At-loop invariant-loop decreases-loop) → c.loop.k < c.before.requires.top
 under c =
     let s = c.before in
-    let fits : s.args.w ≤ noW = omega arith in
-    passed-under s.args.ws.now s.args.row s.args.w c.loop.k s.requires fits c.loop.invariant
+    let fits : s.args.w ≤ no_w = omega arith in
+    passed_under s.args.ws.now s.args.row s.args.w c.loop.k s.requires fits c.loop.invariant
 
 inside : (c : tie.At-loop invariant-loop decreases-loop) → c.before.requires.top < length c.before.args.ws.now
 inside c = c.before.requires.inside
@@ -31,7 +31,7 @@ loop-again : tie.Need-loop-preserved invariant-loop decreases-loop
 loop-again c =
     let l = c.before.before in
     let x = l.before.args in
-    passed-more x.ws.now x.row x.w l.loop.k l.loop.invariant (omega (arith, c.if1.true))
+    passed_more x.ws.now x.row x.w l.loop.k l.loop.invariant (omega (arith, c.if1.true))
 
 returns : tie.Need-returns invariant-loop decreases-loop
 returns c = record { passed = c.before.before.loop.invariant; next = omega (arith, c.if1.false) }

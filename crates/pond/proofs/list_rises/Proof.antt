@@ -4,13 +4,13 @@ use mathlib.Core.Path.{◌≡◌, refl}
 use native.Mathlib.Omega.{arith}
 use lib.ListN.{length, length-replicate}
 use borrow.Author.Rules.{rules}
-use Rattle.sequences.specs.Rewriting.{Rewritten, rewritten-none, rewritten-more}
-use Rattle.pond.specs.Levels.{riseAt, rises-listed}
+use Rattle.sequences.specs.Rewriting.{Rewritten, rewritten_none, rewritten_more}
+use Rattle.pond.specs.Levels.{rise_at, rises_listed}
 use Rattle.pond.proofs.list_rises.Statement.{statement}
 use Rattle.pond.proofs.list_rises.Tie as tie
 
 abbrev invariant-loop : tie.invariant-loop
-invariant-loop m svs sqs rises₀ i₀ rises i = (i ≤ length svs) × Rewritten (riseAt m svs sqs) rises₀ rises i
+invariant-loop m svs sqs rises₀ i₀ rises i = (i ≤ length svs) × Rewritten (rise_at m svs sqs) rises₀ rises i
 
 abbrev decreases-loop : tie.decreases-loop
 decreases-loop m svs sqs rises₀ i₀ rises i = length svs - i
@@ -23,7 +23,7 @@ abbrev at-loop : tie.After-rise-at invariant-loop decreases-loop → tie.At-loop
 at-loop c = c.before.before
 
 loop-holds : tie.Need-loop-init invariant-loop decreases-loop
-loop-holds c = let x = (entry c).args in (omega arith, rewritten-none (riseAt x.m x.svs.now x.sqs.now) c.blank-rises.result 0 refl)
+loop-holds c = let x = (entry c).args in (omega arith, rewritten_none (rise_at x.m x.svs.now x.sqs.now) c.blank-rises.result 0 refl)
 
 add-loop : tie.Need-overflow-add-loop invariant-loop decreases-loop
 add-loop c = omega (arith, (entry c.before).pre.few)
@@ -43,14 +43,14 @@ loop-again c =
     let x = (entry (at-loop c).before).args in
     let l = (at-loop c).loop in
     let blank = (at-loop c).before.blank-rises.result in
-    (omega arith, rewritten-more (riseAt x.m x.svs.now x.sqs.now) blank l.rises l.i _ l.inv.1 (omega (arith, room c)) c.rise-at.ensures)
+    (omega arith, rewritten_more (rise_at x.m x.svs.now x.sqs.now) blank l.rises l.i _ l.inv.1 (omega (arith, room c)) c.rise-at.ensures)
 
 returns : tie.Need-returns invariant-loop decreases-loop
 returns c =
     let start = c.before.before in
     let s = entry start in
     let l = c.before.loop in
-    rises-listed s.args.m s.args.svs.now s.args.sqs.now s.pre start.blank-rises.result l.rises l.i start.blank-rises.ensures (omega arith) l.invariant.1
+    rises_listed s.args.m s.args.svs.now s.args.sqs.now s.pre start.blank-rises.result l.rises l.i start.blank-rises.ensures (omega arith) l.invariant.1
 
 pub list-rises-spec : {M : Type 1} → statement M
 list-rises-spec =

@@ -5,18 +5,18 @@ use mathlib.Core.List.{List}
 use native.Mathlib.Omega.{arith}
 use lib.ListN.{length, length-replicate}
 use borrow.Author.Rules.{rules}
-use Rattle.sequences.specs.Rewriting.{Rewritten, rewritten-none, rewritten-more}
-use Rattle.meaning.specs.Pool.{wOf}
+use Rattle.sequences.specs.Rewriting.{Rewritten, rewritten_none, rewritten_more}
+use Rattle.meaning.specs.Pool.{w_of}
 use Rattle.pond.specs.Tables.{row_at}
-use Rattle.pond.specs.Levels.{noW, ws-listed}
+use Rattle.pond.specs.Levels.{no_w, ws_listed}
 use Rattle.pond.proofs.list_w.Statement.{statement}
 use Rattle.pond.proofs.list_w.Tie as tie
 
-abbrev wAt : (m : ℕ) (svs sqs : List ℕ) → ℕ → ℕ
-wAt m svs sqs k = wOf m (row_at svs sqs k)
+abbrev w_at : (m : ℕ) (svs sqs : List ℕ) → ℕ → ℕ
+w_at m svs sqs k = w_of m (row_at svs sqs k)
 
 abbrev invariant-loop : tie.invariant-loop
-invariant-loop m svs sqs ws₀ i₀ ws i = (i ≤ length svs) × Rewritten (wAt m svs sqs) ws₀ ws i
+invariant-loop m svs sqs ws₀ i₀ ws i = (i ≤ length svs) × Rewritten (w_at m svs sqs) ws₀ ws i
 
 abbrev decreases-loop : tie.decreases-loop
 decreases-loop m svs sqs ws₀ i₀ ws i = length svs - i
@@ -29,14 +29,14 @@ abbrev at-loop : tie.After-w-at invariant-loop decreases-loop → tie.At-loop in
 at-loop c = c.before.before
 
 loop-holds : tie.Need-loop-init invariant-loop decreases-loop
-loop-holds c = let x = (entry c).args in (omega arith, rewritten-none (wAt x.m x.svs.now x.sqs.now) c.blank-ws.result 0 refl)
+loop-holds c = let x = (entry c).args in (omega arith, rewritten_none (w_at x.m x.svs.now x.sqs.now) c.blank-ws.result 0 refl)
 
 w-at-requires : tie.Need-w-at-requires invariant-loop decreases-loop
 w-at-requires c κs = ((entry c.before.before).pre, omega arith)
 
 -- There is room for every row, and for one place behind the last.
 room : (c : tie.After-w-at invariant-loop decreases-loop) → ((at-loop c).loop.i < 20) × (length (at-loop c).before.blank-ws.result ≡ 21)
-room c = (omega (arith, (entry (at-loop c).before).pre.few), rw (at-loop c).before.blank-ws.ensures (length-replicate 21 noW))
+room c = (omega (arith, (entry (at-loop c).before).pre.few), rw (at-loop c).before.blank-ws.ensures (length-replicate 21 no_w))
 
 array-write-ws : tie.Need-array-write-ws invariant-loop decreases-loop
 array-write-ws c = omega (arith, room c, (at-loop c).loop.invariant.1.long)
@@ -46,14 +46,14 @@ loop-again c =
     let x = (entry (at-loop c).before).args in
     let l = (at-loop c).loop in
     let blank = (at-loop c).before.blank-ws.result in
-    (omega arith, rewritten-more (wAt x.m x.svs.now x.sqs.now) blank l.ws l.i _ l.inv.1 (omega (arith, room c)) c.w_at.ensures)
+    (omega arith, rewritten_more (w_at x.m x.svs.now x.sqs.now) blank l.ws l.i _ l.inv.1 (omega (arith, room c)) c.w_at.ensures)
 
 returns : tie.Need-returns invariant-loop decreases-loop
 returns c =
     let start = c.before.before in
     let s = entry start in
     let l = c.before.loop in
-    ws-listed s.args.m s.args.svs.now s.args.sqs.now s.pre start.blank-ws.result l.ws l.i start.blank-ws.ensures (omega arith) l.invariant.1
+    ws_listed s.args.m s.args.svs.now s.args.sqs.now s.pre start.blank-ws.result l.ws l.i start.blank-ws.ensures (omega arith) l.invariant.1
 
 pub list-w-spec : {M : Type 1} → statement M
 list-w-spec =

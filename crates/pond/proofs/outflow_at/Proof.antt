@@ -3,7 +3,7 @@ use Prim.Native.Nat.{◌*◌, ◌/◌, ◌%◌, ◌≤◌, ◌<◌}
 use native.Mathlib.Nat.{div-le_self}
 use native.Mathlib.Omega.{arith}
 use borrow.Author.Rules.{rules}
-use Rattle.pond.specs.Spans.{graded-products, graded-on, graded-over}
+use Rattle.pond.specs.Spans.{graded_products, graded_on, graded_over}
 use Rattle.pond.proofs.outflow_at.Statement.{statement}
 use Rattle.pond.proofs.outflow_at.Tie as tie
 
@@ -11,7 +11,7 @@ returns : tie.Need-returns
 returns c =
     let s = c.before.before.before.before in
     let over : s.args.s.high < s.args.w = omega arith in
-    graded-over s.args.s s.args.w s.requires.1 over
+    graded_over s.args.s s.args.w s.requires.1 over
 
 -- Where x is known, where the share is, and where it is divided.
 abbrev at-share : tie.After-round-down → tie.After-plain2
@@ -28,25 +28,25 @@ products : (c : tie.After-plain) → let s = (start c).args.s in let x = c.plain
 products c =
     let s = start c in
     let up : c.plain.result ≤ 600_000 * s.args.s.rise = omega (arith, c.plain.ensures, s.pre.1.whole) in
-    graded-products s.args.s s.args.w s.pre.1 c.plain.result up
+    graded_products s.args.s s.args.w s.pre.1 c.plain.result up
 
 round-down-requires : tie.Need-round-down-requires
 round-down-requires c κs =
     let x = c.before.before.before.before.before.before in
     let g = (start x).requires.1 in
-    (g.some, g.riseUp, omega (arith, c.before.before.before.plain2.ensures, products x))
+    (g.some, g.rise_up, omega (arith, c.before.before.before.plain2.ensures, products x))
 
 add-result-3 : tie.Need-overflow-add-result-3
 add-result-3 c =
     let share = (at-share c).plain2 in
     let g = (start (at_x c)).requires.1 in
-    omega (arith, c.round-down.ensures, share.ensures, div-le_self share.result (start (at_x c)).args.s.rise, products (at_x c), g.outUp)
+    omega (arith, c.round-down.ensures, share.ensures, div-le_self share.result (start (at_x c)).args.s.rise, products (at_x c), g.out_up)
 
 returns-2 : tie.Need-returns-2
 returns-2 c =
     let s = start (at_x c) in
     let on : s.args.w ≤ s.args.s.high = omega arith in
-    graded-on s.args.s s.args.w s.pre.1 _ _ _ on (at_x c).plain.ensures (at-share c).plain2.ensures c.round-down.ensures
+    graded_on s.args.s s.args.w s.pre.1 _ _ _ on (at_x c).plain.ensures (at-share c).plain2.ensures c.round-down.ensures
 
 pub outflow-at-spec : {M : Type 1} → statement M
 outflow-at-spec =
@@ -54,4 +54,4 @@ outflow-at-spec =
     (tie.spec
     (λ c. search rules) (λ c. search rules) returns (λ c. search rules) (λ c κs. search rules) (λ c. search rules) (λ c. omega (arith, products c.before.before))
     (λ c κs. search rules) (λ c. search rules) (λ c. omega (arith, products c.before.before.before.before.before))
-    (λ c. let x = c.before.before.before.before.before.before in omega (arith, products x, (start x).requires.1.outUp)) round-down-requires add-result-3 returns-2)
+    (λ c. let x = c.before.before.before.before.before.before in omega (arith, products x, (start x).requires.1.out_up)) round-down-requires add-result-3 returns-2)

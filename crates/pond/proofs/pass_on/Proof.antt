@@ -7,19 +7,19 @@ use mathlib.Core.List.{List, [], ◌++◌}
 use native.Mathlib.Nat.{mul-zero, le_trans}
 use native.Mathlib.Omega.{arith}
 use lib.ListN.{length, take, drop, get_or, length-set, drop_of_length-le}
-use Rattle.sequences.specs.Overwriting.{overwrite-done}
-use Rattle.sequences.specs.Bounds.{AllUpTo, bound-set}
+use Rattle.sequences.specs.Overwriting.{overwrite_done}
+use Rattle.sequences.specs.Bounds.{AllUpTo, bound_set}
 use Rattle.meaning.specs.Words.{◌<?◌}
-use Rattle.meaning.specs.Water.{flowLimit}
-use Rattle.meaning.specs.Pool.{rows_of, outflowAt, lastW}
+use Rattle.meaning.specs.Water.{flow_limit}
+use Rattle.meaning.specs.Pool.{rows_of, outflow_at, last_w}
 use Rattle.pond.specs.declared.Span.{Span}
-use Rattle.pond.specs.Tables.{two-rows, paired, ruled, count-rows}
-use Rattle.pond.specs.Outflows.{outflow-under, outflow-last}
-use Rattle.pond.specs.Limits.{Interval, row-flow, w-after-limit}
-use Rattle.pond.specs.Spans.{SpanAt, found-graded, found-outflow, found-over}
-use Rattle.pond.specs.Levels.{row_listed, span-listed}
+use Rattle.pond.specs.Tables.{two_rows, paired, ruled, count_rows}
+use Rattle.pond.specs.Outflows.{outflow_under, outflow_last}
+use Rattle.pond.specs.Limits.{Interval, row_flow, w-after_limit}
+use Rattle.pond.specs.Spans.{SpanAt, found_graded, found_outflow, found-over}
+use Rattle.pond.specs.Levels.{row_listed, span_listed}
 use Rattle.pond.specs.Searches.{Sought}
-use Rattle.pond.specs.Turns.{poolOf, outflowsAfter, aboveAfter, outflow-turn, above-turn}
+use Rattle.pond.specs.Turns.{pool_of, outflows_after, above_after, outflow_turn, above_turn}
 use Rattle.pond.proofs.pass_on.Statement.{statement}
 use Rattle.pond.proofs.pass_on.Tie as tie
 
@@ -28,13 +28,13 @@ record Inv (m : ℕ) (svs sqs : List ℕ) (first : ℕ) (q₀ q : List ℕ) (w x
   some : 1 ≤ i
   up : i ≤ length q₀
   long : length q ≡ length q₀
-  flows : AllUpTo flowLimit q
-  inUp : x ≤ flowLimit
+  flows : AllUpTo flow_limit q
+  in_up : x ≤ flow_limit
   low : w ≤ 17_280_000_000_000_000 * i
   held : 2 * m * o ≤ w
   span : SpanAt m svs sqs s
-  done : take i q ++ outflowsAfter m (rows_of svs sqs) (poolOf w x o) (drop i q) ≡ take 1 q₀ ++ outflowsAfter m (rows_of svs sqs) (poolOf 0 first 0) (drop 1 q₀)
-  above : (over || aboveAfter m (rows_of svs sqs) (poolOf w x o) (drop i q)) ≡ aboveAfter m (rows_of svs sqs) (poolOf 0 first 0) (drop 1 q₀)
+  done : take i q ++ outflows_after m (rows_of svs sqs) (pool_of w x o) (drop i q) ≡ take 1 q₀ ++ outflows_after m (rows_of svs sqs) (pool_of 0 first 0) (drop 1 q₀)
+  above : (over || above_after m (rows_of svs sqs) (pool_of w x o) (drop i q)) ≡ above_after m (rows_of svs sqs) (pool_of 0 first 0) (drop 1 q₀)
 
 abbrev invariant-loop : tie.invariant-loop
 invariant-loop q₀ m svs sqs ws rises first w₀ old-in₀ old-out₀ over₀ s₀ i₀ q w old-in old-out over s i = Inv m svs sqs first q₀ q w old-in old-out over s i
@@ -56,7 +56,7 @@ two s =
     let svs = s.args.svs.now in
     let sqs = s.args.sqs.now in
     let t = s.requires.0 in
-    omega (arith, two-rows m svs sqs t, count-rows svs sqs (paired m svs sqs t))
+    omega (arith, two_rows m svs sqs t, count_rows svs sqs (paired m svs sqs t))
 
 span-at-requires : tie.Need-span-at-requires invariant-loop decreases-loop
 span-at-requires c κs =
@@ -73,10 +73,10 @@ loop-holds c =
       up = omega arith;
       long = refl;
       flows = s.pre.1.1.1.1;
-      inUp = omega arith;
+      in_up = omega arith;
       low = omega arith;
       held = omega (arith, mul-zero (2 * x.m));
-      span = rw c.span-at.ensures (span-listed x.m x.svs.now x.sqs.now s.pre.0 x.ws.now x.rises.now s.pre.1.0 s.pre.1.1.0 0 (two s));
+      span = rw c.span-at.ensures (span_listed x.m x.svs.now x.sqs.now s.pre.0 x.ws.now x.rises.now s.pre.1.0 s.pre.1.1.0 0 (two s));
       done = refl;
       above = refl;
     }
@@ -93,7 +93,7 @@ w-after-requires c κs =
     let pre = (entry l.before).pre in
     let t = pre.0 in
     let v = l.loop.invariant in
-    (omega (arith, v.up, v.low, pre.1.1.1.0), record { minutes = t.minutes; oldUp = omega (arith, v.inUp); newUp = v.flows l.loop.i; held = omega (arith, v.held) })
+    (omega (arith, v.up, v.low, pre.1.1.1.0), record { minutes = t.minutes; old_up = omega (arith, v.in_up); new_up = v.flows l.loop.i; held = omega (arith, v.held) })
 
 seek-requires : tie.Need-seek-requires invariant-loop decreases-loop
 seek-requires c κs =
@@ -105,7 +105,7 @@ outflow-at-requires : tie.Need-outflow-at-requires invariant-loop decreases-loop
 outflow-at-requires c κs =
     let l = c.before.before.before.before.before in
     let s = entry l.before in
-    (s.pre.0.minutes, found-graded s.args.m s.args.svs.now s.args.sqs.now s.pre.0 _ _ (c.before.seek.ensures s.args.m (sought l)))
+    (s.pre.0.minutes, found_graded s.args.m s.args.svs.now s.args.sqs.now s.pre.0 _ _ (c.before.seek.ensures s.args.m (sought l)))
 
 loop-again : tie.Need-loop-preserved invariant-loop decreases-loop
 loop-again c =
@@ -122,22 +122,22 @@ loop-again c =
     let found = c.before.before.seek.ensures m (sought (at-loop c)) in
     let span = c.before.before.seek.result in
     let o = c.outflow-at.result in
-    let eo : o ≡ outflowAt m rows w = c.outflow-at.ensures ∙ found-outflow m svs sqs t span w found in
-    let interval : Interval m (poolOf l.w l.old-in l.old-out) (get_or l.q l.i 0) = record { minutes = t.minutes; oldUp = v.inUp; newUp = v.flows l.i; held = v.held } in
-    let grown = w-after-limit m (poolOf l.w l.old-in l.old-out) (get_or l.q l.i 0) interval in
-    let flow : o ≤ flowLimit = rw eo (le_trans (outflow-last m rows (ruled m svs sqs t) w) (row-flow m svs sqs t (length rows - 1))) in
-    let over : c.before.is-over.result ≡ ((lastW m rows <? w) || l.over) = c.before.is-over.ensures ∙ ap (λ (b : Bool). b || l.over) (found-over m svs sqs t span w found) in
+    let eo : o ≡ outflow_at m rows w = c.outflow-at.ensures ∙ found_outflow m svs sqs t span w found in
+    let interval : Interval m (pool_of l.w l.old-in l.old-out) (get_or l.q l.i 0) = record { minutes = t.minutes; old_up = v.in_up; new_up = v.flows l.i; held = v.held } in
+    let grown = w-after_limit m (pool_of l.w l.old-in l.old-out) (get_or l.q l.i 0) interval in
+    let flow : o ≤ flow_limit = rw eo (le_trans (outflow_last m rows (ruled m svs sqs t) w) (row_flow m svs sqs t (length rows - 1))) in
+    let over : c.before.is-over.result ≡ ((last_w m rows <? w) || l.over) = c.before.is-over.ensures ∙ ap (λ (b : Bool). b || l.over) (found-over m svs sqs t span w found) in
     record {
       some = omega arith;
       up = omega arith;
       long = simp length-set v.long;
-      flows = bound-set flowLimit l.q l.i _ v.flows flow;
-      inUp = omega (arith, v.flows l.i);
+      flows = bound_set flow_limit l.q l.i _ v.flows flow;
+      in_up = omega (arith, v.flows l.i);
       low = omega (arith, ew, grown, v.low);
-      held = rw eo (outflow-under m rows (ruled m svs sqs t) w);
+      held = rw eo (outflow_under m rows (ruled m svs sqs t) w);
       span = found.at;
-      done = outflow-turn m rows l.q l.i l.w l.old-in l.old-out w _ o _ (omega arith) ew (omega arith) eo (omega arith) ∙ v.done;
-      above = above-turn m rows l.q l.i l.w l.old-in l.old-out w _ o _ (omega arith) ew (omega arith) eo l.over _ over ∙ v.above;
+      done = outflow_turn m rows l.q l.i l.w l.old-in l.old-out w _ o _ (omega arith) ew (omega arith) eo (omega arith) ∙ v.done;
+      above = above_turn m rows l.q l.i l.w l.old-in l.old-out w _ o _ (omega arith) ew (omega arith) eo l.over _ over ∙ v.above;
     }
 
 returns : tie.Need-returns invariant-loop decreases-loop
@@ -146,7 +146,7 @@ returns c =
     let v = l.invariant in
     let past : length l.q ≤ l.i = omega (arith, v.long) in
     let none : drop l.i l.q ≡ [] = drop_of_length-le l.q past in (
-      sym (overwrite-done (outflowsAfter _ _ (poolOf l.w l.old-in l.old-out)) l.q l.i past refl) ∙ v.done,
+      sym (overwrite_done (outflows_after _ _ (pool_of l.w l.old-in l.old-out)) l.q l.i past refl) ∙ v.done,
       sym (or-false l.over) ∙ rw none at v.above,
     )
 

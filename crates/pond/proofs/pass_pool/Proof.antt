@@ -4,17 +4,17 @@ use mathlib.Core.Path.{◌≡◌, ◌∙◌}
 use native.Mathlib.Omega.{arith}
 use lib.ListN.{length, set, length-set}
 use borrow.Author.Rules.{rules}
-use Rattle.sequences.specs.Bounds.{bound-set}
-use Rattle.meaning.specs.Water.{flowLimit}
+use Rattle.sequences.specs.Bounds.{bound_set}
+use Rattle.meaning.specs.Water.{flow_limit}
 use Rattle.meaning.specs.Pool.{rows_of}
-use Rattle.pond.specs.Turns.{ponded-none, ponded-first, above-first}
+use Rattle.pond.specs.Turns.{ponded_none, ponded_first, above_first}
 use Rattle.pond.proofs.pass_pool.Statement.{statement}
 use Rattle.pond.proofs.pass_pool.Tie as tie
 
 returns : tie.Need-returns
 returns c =
     let s = c.before.before.before.before in
-    ponded-none s.args.m (rows_of s.args.svs.now s.args.sqs.now) s.args.q.now (omega arith)
+    ponded_none s.args.m (rows_of s.args.svs.now s.args.sqs.now) s.args.q.now (omega arith)
 
 -- The entry, seen from behind the first ordinate, and the call that makes each list from where both are lent.
 abbrev entry : tie.After-list-w → tie.Start
@@ -31,7 +31,7 @@ pass-on-requires c κs =
     let s = entry (ws-made c) in
     let q = s.args.q.now in
     let long : length (set q 0 0) ≡ length q = length-set q 0 0 in
-    (s.pre.0, ((ws-made c).list-w.ensures, ((rises-made c).list-rises.ensures, ((omega arith, omega (arith, s.pre.1.0), s.pre.1.1 0), bound-set flowLimit q 0 0 s.pre.1.1 zero-le))))
+    (s.pre.0, ((ws-made c).list-w.ensures, ((rises-made c).list-rises.ensures, ((omega arith, omega (arith, s.pre.1.0), s.pre.1.1 0), bound_set flow_limit q 0 0 s.pre.1.1 zero-le))))
 
 same_length : tie.Need-same-length
 same_length c = let call = c.before.before in call.pass_on.auto.0 ∙ length-set (entry (ws-made call.before)).args.q.now 0 0
@@ -43,7 +43,7 @@ returns-2 c =
     let e = call.pass_on.ensures in
     let rows = rows_of x.svs.now x.sqs.now in
     let q = x.q.now in
-    (e.0 ∙ ponded-first x.m rows q _ _ (omega arith) (omega arith) (omega arith), e.1 ∙ above-first x.m rows q _ _ (omega arith) (omega arith))
+    (e.0 ∙ ponded_first x.m rows q _ _ (omega arith) (omega arith) (omega arith), e.1 ∙ above_first x.m rows q _ _ (omega arith) (omega arith))
 
 pub pass-pool-spec : {M : Type 1} → statement M
 pass-pool-spec =

@@ -4,7 +4,7 @@ use mathlib.Core.Path.{◌≡◌}
 use native.Mathlib.Omega.{arith}
 use lib.ListN.{length}
 use borrow.Author.Rules.{rules}
-use Rattle.pond.specs.Tables.{Follows, paired, row_at, rows-follow}
+use Rattle.pond.specs.Tables.{Follows, paired, row_at, rows_follow}
 use Rattle.pond.proofs.rise_at.Statement.{statement}
 use Rattle.pond.proofs.rise_at.Tie as tie
 
@@ -13,14 +13,14 @@ pairs s = paired s.args.m s.args.svs.now s.args.sqs.now s.requires.0
 
 follows : (s : tie.Start)
     → Follows s.args.m (row_at s.args.svs.now s.args.sqs.now s.args.row) (row_at s.args.svs.now s.args.sqs.now (s.args.row + 1))
-follows s = rows-follow s.args.m s.args.svs.now s.args.sqs.now s.requires.0 s.args.row s.requires.1
+follows s = rows_follow s.args.m s.args.svs.now s.args.sqs.now s.requires.0 s.args.row s.requires.1
 
 rise-of-requires : tie.Need-rise-of-requires
 rise-of-requires c κs =
     let s = c.before.before.before.before.before.before in
     let t = s.requires.0 in
     let f = follows s in
-    (t.minutes, omega (arith, f.fills), t.volumesUp (s.args.row + 1), omega (arith, f.grows), t.outflowsUp (s.args.row + 1))
+    (t.minutes, omega (arith, f.fills), t.volumes_up (s.args.row + 1), omega (arith, f.grows), t.outflows_up (s.args.row + 1))
 
 pub rise-at-spec : {M : Type 1} → statement M
 rise-at-spec =

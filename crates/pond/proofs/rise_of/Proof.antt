@@ -2,17 +2,17 @@
 use Prim.Native.Nat.{◌+◌, ◌*◌, ◌≤◌}
 use native.Mathlib.Omega.{arith}
 use borrow.Author.Rules.{rules}
-use Rattle.meaning.specs.Pool.{poolRow, wOf}
-use Rattle.pond.specs.Limits.{w-limit}
-use Rattle.pond.specs.Hundredths.{w-rises}
-use Rattle.pond.specs.Levels.{riseOf}
+use Rattle.meaning.specs.Pool.{pool_row, w_of}
+use Rattle.pond.specs.Limits.{w_limit}
+use Rattle.pond.specs.Hundredths.{w_rises}
+use Rattle.pond.specs.Levels.{rise_of}
 use Rattle.pond.proofs.rise_of.Statement.{statement}
 use Rattle.pond.proofs.rise_of.Tie as tie
 
-limit : (s : tie.Start) → let x = s.args in wOf x.m (poolRow x.sv x.sq) + 600_000 * riseOf x.m x.sv x.sq x.next-sv x.next-sq ≤ 17_351_999_128_800_000
+limit : (s : tie.Start) → let x = s.args in w_of x.m (pool_row x.sv x.sq) + 600_000 * rise_of x.m x.sv x.sq x.next-sv x.next-sq ≤ 17_351_999_128_800_000
 limit s =
     let x = s.args in
-    rw (w-rises x.m x.sv x.sq x.next-sv x.next-sq s.requires.1 s.requires.3) (w-limit x.m x.next-sv x.next-sq s.requires.0 s.requires.2 s.requires.4)
+    rw (w_rises x.m x.sv x.sq x.next-sv x.next-sq s.requires.1 s.requires.3) (w_limit x.m x.next-sv x.next-sq s.requires.0 s.requires.2 s.requires.4)
 
 pub rise-of-spec : {M : Type 1} → statement M
 rise-of-spec =

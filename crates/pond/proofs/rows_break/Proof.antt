@@ -4,13 +4,13 @@ use mathlib.Core.Path.{◌≡◌, refl, sym, ◌∙◌}
 use mathlib.Core.Bool.{Bool, true, false, ◌||◌}
 use native.Mathlib.Omega.{arith}
 use lib.ListN.{length, get_or, drop}
-use Rattle.meaning.specs.Pool.{poolRow, rows_of, rowsBreak}
-use Rattle.pond.specs.Refusals.{rows-turn, rows-done}
+use Rattle.meaning.specs.Pool.{pool_row, rows_of, rows_break}
+use Rattle.pond.specs.Refusals.{rows_turn, rows_done}
 use Rattle.pond.proofs.rows_break.Statement.{statement}
 use Rattle.pond.proofs.rows_break.Tie as tie
 
 abbrev invariant-loop : tie.invariant-loop
-invariant-loop m svs sqs sv₀ sq₀ j₀ sv sq j = rowsBreak m (poolRow sv sq) (rows_of (drop j svs) (drop j sqs)) ≡ rowsBreak m (poolRow 0 0) (rows_of (drop 1 svs) (drop 1 sqs))
+invariant-loop m svs sqs sv₀ sq₀ j₀ sv sq j = rows_break m (pool_row sv sq) (rows_of (drop j svs) (drop j sqs)) ≡ rows_break m (pool_row 0 0) (rows_of (drop 1 svs) (drop 1 sqs))
 
 abbrev decreases-loop : tie.decreases-loop
 decreases-loop m svs sqs sv₀ sq₀ j₀ sv sq j = length svs - j
@@ -31,12 +31,12 @@ row-breaks-requires c κs =
 -- A row that breaks a rule, or does not.
 turn : (c : tie.After-row-breaks invariant-loop decreases-loop) (broken : Bool) → c.row-breaks.result ≡ broken
     → let x = (entry (at-loop c)).args in let l = (at-loop c).loop in let sv = get_or x.svs.now l.j 0 in let sq = get_or x.sqs.now l.j 0 in
-    (broken || rowsBreak x.m (poolRow sv sq) (rows_of (drop (l.j + 1) x.svs.now) (drop (l.j + 1) x.sqs.now)))
-    ≡ rowsBreak x.m (poolRow 0 0) (rows_of (drop 1 x.svs.now) (drop 1 x.sqs.now))
+    (broken || rows_break x.m (pool_row sv sq) (rows_of (drop (l.j + 1) x.svs.now) (drop (l.j + 1) x.sqs.now)))
+    ≡ rows_break x.m (pool_row 0 0) (rows_of (drop 1 x.svs.now) (drop 1 x.sqs.now))
 turn c broken e =
     let s = entry (at-loop c) in
     let l = (at-loop c).loop in
-    rows-turn s.args.m l.sv l.sq s.args.svs.now s.args.sqs.now l.j broken s.pre.0.1 (omega arith) (sym e ∙ c.row-breaks.ensures)
+    rows_turn s.args.m l.sv l.sq s.args.svs.now s.args.sqs.now l.j broken s.pre.0.1 (omega arith) (sym e ∙ c.row-breaks.ensures)
     ∙ l.inv
 
 returns : tie.Need-returns invariant-loop decreases-loop
@@ -49,7 +49,7 @@ returns-2 : tie.Need-returns-2 invariant-loop decreases-loop
 returns-2 c =
     let s = entry c.before in
     let l = c.before.loop in
-    sym (rows-done s.args.m l.sv l.sq s.args.svs.now s.args.sqs.now l.j (omega arith)) ∙ l.invariant
+    sym (rows_done s.args.m l.sv l.sq s.args.svs.now s.args.sqs.now l.j (omega arith)) ∙ l.invariant
 
 pub rows-break-spec : {M : Type 1} → statement M
 rows-break-spec =

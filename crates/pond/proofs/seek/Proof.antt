@@ -4,8 +4,8 @@ use mathlib.Core.Path.{◌≡◌}
 use native.Mathlib.Omega.{arith}
 use lib.ListN.{length}
 use borrow.Author.Rules.{rules}
-use Rattle.pond.specs.Levels.{noW}
-use Rattle.pond.specs.Searches.{first-low, row-topped, row-sought, sink-inside, sink-found, climb-inside, climb-found, stay-found}
+use Rattle.pond.specs.Levels.{no_w}
+use Rattle.pond.specs.Searches.{first_low, row-topped, row-sought, sink_inside, sink-found, climb_inside, climb-found, stay_found}
 use Rattle.pond.proofs.seek.Statement.{statement}
 use Rattle.pond.proofs.seek.Tie as tie
 
@@ -19,7 +19,7 @@ from-else c = c.before.before.before.before.before.before
 abbrev from-above : tie.Then2 → tie.Start
 from-above c = from-else c.before.before
 
-fits : (s : tie.Start) → s.args.w ≤ noW
+fits : (s : tie.Start) → s.args.w ≤ no_w
 fits s = omega arith
 
 sink-requires : tie.Need-sink-requires
@@ -28,7 +28,7 @@ sink-requires c κs =
     let x = s.args in
     let g = s.pre.sought in
     let t = row-topped s.pre.m x.svs.now x.sqs.now x.ws.now x.rises.now x.s g in
-    (omega (arith, t.ahead, t.inside), first-low s.pre.m x.svs.now x.sqs.now x.ws.now x.rises.now x.s g)
+    (omega (arith, t.ahead, t.inside), first_low s.pre.m x.svs.now x.sqs.now x.ws.now x.rises.now x.s g)
 
 span-at-requires : tie.Need-span-at-requires
 span-at-requires c κs =
@@ -37,7 +37,7 @@ span-at-requires c κs =
     let g = s.pre.sought in
     let k = c.sink.result in
     row-sought s.pre.m x.svs.now x.sqs.now x.ws.now x.rises.now x.s g k
-    (sink-inside s.pre.m x.svs.now x.sqs.now x.ws.now x.rises.now x.s g x.w k c.sink.ensures)
+    (sink_inside s.pre.m x.svs.now x.sqs.now x.ws.now x.rises.now x.s g x.w k c.sink.ensures)
 
 returns : tie.Need-returns
 returns c = λ m g.
@@ -62,7 +62,7 @@ span-at-requires-2 c κs =
     let x = s.args in
     let g = s.pre.sought in
     row-sought s.pre.m x.svs.now x.sqs.now x.ws.now x.rises.now x.s g c.smaller.result
-    (climb-inside s.pre.m x.svs.now x.sqs.now x.ws.now x.rises.now x.s g x.w c.before.climb.result c.smaller.result (clamped c))
+    (climb_inside s.pre.m x.svs.now x.sqs.now x.ws.now x.rises.now x.s g x.w c.before.climb.result c.smaller.result (clamped c))
 
 returns-2 : tie.Need-returns-2
 returns-2 c = λ m g.
@@ -77,7 +77,7 @@ returns-2 c = λ m g.
 returns-3 : tie.Need-returns-3
 returns-3 c = λ m g.
     let x = (from-else c.before.before).args in
-    stay-found m x.svs.now x.sqs.now x.ws.now x.rises.now x.s g x.w (omega (arith, c.before.before.if1.false)) (omega (arith, c.if2.false))
+    stay_found m x.svs.now x.sqs.now x.ws.now x.rises.now x.s g x.w (omega (arith, c.before.before.if1.false)) (omega (arith, c.if2.false))
 
 pub seek-spec : {M : Type 1} → statement M
 seek-spec =

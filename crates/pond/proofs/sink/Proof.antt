@@ -2,7 +2,7 @@
 use Prim.Native.Nat.{◌<◌}
 use mathlib.Core.Path.{refl}
 use native.Mathlib.Omega.{arith}
-use Rattle.pond.specs.Searches.{Left, left-none, left-more, left_behind}
+use Rattle.pond.specs.Searches.{Left, left_none, left_more, left_behind}
 use Rattle.pond.proofs.sink.Statement.{statement}
 use Rattle.pond.proofs.sink.Tie as tie
 
@@ -17,7 +17,7 @@ abbrev at-loop : tie.Then1 invariant-loop decreases-loop → tie.At-loop invaria
 at-loop c = c.before.before
 
 loop-holds : tie.Need-loop-init invariant-loop decreases-loop
-loop-holds c = left-none c.args.ws.now c.args.row c.args.w c.args.row refl
+loop-holds c = left_none c.args.ws.now c.args.row c.args.w c.args.row refl
 
 -- That is not the first.
 behind-first : (c : tie.Then1 invariant-loop decreases-loop) → 0 < (at-loop c).loop.k
@@ -27,7 +27,7 @@ loop-again : tie.Need-loop-preserved invariant-loop decreases-loop
 loop-again c =
     let l = at-loop c in
     let x = l.before.args in
-    left-more x.ws.now x.row x.w l.loop.k l.loop.inv (omega (arith, c.if1.true)) (behind-first c)
+    left_more x.ws.now x.row x.w l.loop.k l.loop.inv (omega (arith, c.if1.true)) (behind-first c)
 
 returns : tie.Need-returns invariant-loop decreases-loop
 returns c = record { left = c.before.before.loop.invariant; here = omega (arith, c.if1.false) }

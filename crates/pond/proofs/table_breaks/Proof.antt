@@ -4,7 +4,7 @@ use mathlib.Core.Path.{◌≡◌, sym, ◌∙◌}
 use native.Mathlib.Omega.{arith}
 use lib.ListN.{length, get_or}
 use borrow.Author.Rules.{rules}
-use Rattle.pond.specs.Refusals.{refused-unpaired, refused-short, refused-volume, refused-outflow, asked-behind}
+use Rattle.pond.specs.Refusals.{refused_unpaired, refused_short, refused_volume, refused_outflow, asked-behind}
 use Rattle.pond.proofs.table_breaks.Statement.{statement}
 use Rattle.pond.proofs.table_breaks.Tie as tie
 
@@ -38,27 +38,27 @@ returns : tie.Need-returns
 returns c =
     let x = c.before.before.before.args in
     let unequal : length x.svs.now ≡ length x.sqs.now → ⊥ = omega arith in
-    sym (refused-unpaired x.m x.svs.now x.sqs.now unequal)
+    sym (refused_unpaired x.m x.svs.now x.sqs.now unequal)
 
 returns-2 : tie.Need-returns-2
 returns-2 c =
     let x = (from-paired c.before).args in
     let short : length x.svs.now < 2 = omega arith in
-    sym (refused-short x.m x.svs.now x.sqs.now (equal c.before) short)
+    sym (refused_short x.m x.svs.now x.sqs.now (equal c.before) short)
 
 returns-3 : tie.Need-returns-3
 returns-3 c =
     let before = c.before.before in
     let x = (from-two before).args in
     let some : get_or x.svs.now 0 0 ≡ 0 → ⊥ = omega arith in
-    sym (refused-volume x.m x.svs.now x.sqs.now (equal before.before) (two before) some)
+    sym (refused_volume x.m x.svs.now x.sqs.now (equal before.before) (two before) some)
 
 returns-4 : tie.Need-returns-4
 returns-4 c =
     let before = c.before.before.before.before in
     let x = (from-two before).args in
     let some : get_or x.sqs.now 0 0 ≡ 0 → ⊥ = omega arith in
-    sym (refused-outflow x.m x.svs.now x.sqs.now (equal before.before) (two before) some)
+    sym (refused_outflow x.m x.svs.now x.sqs.now (equal before.before) (two before) some)
 
 returns-5 : tie.Need-returns-5
 returns-5 c =

@@ -2,17 +2,17 @@
 use Prim.Native.Nat.{◌+◌, ◌*◌, ◌≤◌}
 use native.Mathlib.Omega.{arith}
 use borrow.Author.Rules.{rules}
-use Rattle.meaning.specs.Pool.{wAfter}
-use Rattle.pond.specs.Limits.{inflow-limit}
-use Rattle.pond.specs.Turns.{poolOf}
+use Rattle.meaning.specs.Pool.{w_after}
+use Rattle.pond.specs.Limits.{inflow_limit}
+use Rattle.pond.specs.Turns.{pool_of}
 use Rattle.pond.proofs.w_after.Statement.{statement}
 use Rattle.pond.proofs.w_after.Tie as tie
 
 limit : (s : tie.Start) → s.args.m * (s.args.old-in + s.args.new_in) ≤ 17_280_000_000_000_000
-limit s = inflow-limit s.args.m (poolOf s.args.w s.args.old-in s.args.old-out) s.args.new_in s.requires.1
+limit s = inflow_limit s.args.m (pool_of s.args.w s.args.old-in s.args.old-out) s.args.new_in s.requires.1
 
 returns : tie.Need-returns
-unfolding wAfter
+unfolding w_after
 returns c = omega arith
 
 pub w-after-spec : {M : Type 1} → statement M

@@ -14,7 +14,7 @@ w-of-requires : tie.Need-w-of-requires
 w-of-requires c κs =
     let s = c.before.before.before.before in
     let t = s.requires.0 in
-    (t.minutes, t.volumesUp s.args.row, t.outflowsUp s.args.row)
+    (t.minutes, t.volumes_up s.args.row, t.outflows_up s.args.row)
 
 pub w-at-spec : {M : Type 1} → statement M
 w-at-spec =

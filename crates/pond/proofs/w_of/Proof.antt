@@ -2,18 +2,18 @@
 use Prim.Native.Nat.{◌+◌, ◌*◌, ◌≤◌}
 use native.Mathlib.Omega.{arith}
 use borrow.Author.Rules.{rules}
-use Rattle.pond.specs.Limits.{w-limit}
-use Rattle.pond.specs.Hundredths.{w-hundredths}
+use Rattle.pond.specs.Limits.{w_limit}
+use Rattle.pond.specs.Hundredths.{w_hundredths}
 use Rattle.pond.proofs.w_of.Statement.{statement}
 use Rattle.pond.proofs.w_of.Tie as tie
 
 limit : (s : tie.Start) → 600_000 * (1_452 * s.args.sv + s.args.m * s.args.sq) ≤ 17_351_999_128_800_000
 limit s =
     let x = s.args in
-    omega (arith, w-hundredths x.m x.sv x.sq, w-limit x.m x.sv x.sq s.requires.0 s.requires.1 s.requires.2)
+    omega (arith, w_hundredths x.m x.sv x.sq, w_limit x.m x.sv x.sq s.requires.0 s.requires.1 s.requires.2)
 
 returns : tie.Need-returns
-returns c = omega (arith, w-hundredths c.args.m c.args.sv c.args.sq)
+returns c = omega (arith, w_hundredths c.args.m c.args.sv c.args.sq)
 
 pub w-of-spec : {M : Type 1} → statement M
 w-of-spec =

@@ -3,18 +3,18 @@ use Prim.Native.Nat.{ℕ, ◌+◌, ◌-◌, ◌*◌, ◌≤◌}
 use mathlib.Core.Path.{◌≡◌, refl, ◌∙◌}
 use native.Mathlib.Omega.{arith}
 use lib.ListN.{length}
-use Rattle.meaning.specs.Results.{recordSize}
-use Rattle.sequences.specs.Bounds.{AllUpTo, bound-part}
+use Rattle.meaning.specs.Results.{record_size}
+use Rattle.sequences.specs.Bounds.{AllUpTo, bound_part}
 use Rattle.sequences.specs.Parts.{part, length_part}
-use Rattle.text.specs.Written.{Written, written_none, written-more}
-use Rattle.figures.specs.Room.{line-short}
-use Rattle.printing.specs.Lines.{linesTo, lines_more}
-use Rattle.printing.specs.Room.{lines-short}
+use Rattle.text.specs.Written.{Written, written_none, written_more}
+use Rattle.figures.specs.Room.{line_short}
+use Rattle.printing.specs.Lines.{lines_to, lines_more}
+use Rattle.printing.specs.Room.{lines_short}
 use Rattle.printing.proofs.write_lines.Statement.{statement}
 use Rattle.printing.proofs.write_lines.Tie as tie
 
 abbrev invariant-loop : tie.invariant-loop
-invariant-loop out₀ start records blocks at₀ k₀ out at k = (k ≤ blocks) × (length out ≡ length out₀) × Written out₀ start (linesTo k records) out at
+invariant-loop out₀ start records blocks at₀ k₀ out at k = (k ≤ blocks) × (length out ≡ length out₀) × Written out₀ start (lines_to k records) out at
 
 abbrev decreases-loop : tie.decreases-loop
 decreases-loop out₀ start records blocks at₀ k₀ out at k = blocks - k
@@ -26,12 +26,12 @@ write-line-requires : tie.Need-write-line-requires invariant-loop decreases-loop
 write-line-requires c κs =
     let l = c.before.before.before.loop in
     let records = c.before.before.before.before.before.before.args.records.now in
-    let p = recordSize * l.k in
-    let n : p + recordSize - p ≡ recordSize = omega arith in
+    let p = record_size * l.k in
+    let n : p + record_size - p ≡ record_size = omega arith in
     let bytes : AllUpTo 255 records = λ (j : ℕ). omega (arith, c.before.before.before.before.shared-slice-known.given j) in
-    let long = length_part p recordSize records (omega arith) in
-    let line = line-short (part p recordSize records) (bound-part 255 p recordSize records bytes) long in
-    let lines = lines-short l.k records bytes (omega arith) in
+    let long = length_part p record_size records (omega arith) in
+    let line = line_short (part p record_size records) (bound_part 255 p record_size records bytes) long in
+    let lines = lines_short l.k records bytes (omega arith) in
     (rw n long, rw n (omega arith))
 
 loop-again : tie.Need-loop-preserved invariant-loop decreases-loop
@@ -39,10 +39,10 @@ loop-again c =
     let l = c.before.before.before.before.before.before.loop in
     let records = c.before.before.before.before.before.before.before.before.before.args.records.now in
     let written = c.before.before.write-line in
-    let n : recordSize * l.k + recordSize - recordSize * l.k ≡ recordSize = omega arith in
+    let n : record_size * l.k + record_size - record_size * l.k ≡ record_size = omega arith in
     let bytes : AllUpTo 255 records = λ (j : ℕ). omega (arith, c.before.before.before.before.before.before.before.shared-slice-known.given j) in
-    let lines = lines-short l.k records bytes (omega arith) in
-    (omega arith, written.auto.0 ∙ l.invariant.1, rw lines_more (written-more (omega arith) l.invariant.2 (rw n at written.ensures)))
+    let lines = lines_short l.k records bytes (omega arith) in
+    (omega arith, written.auto.0 ∙ l.invariant.1, rw lines_more (written_more (omega arith) l.invariant.2 (rw n at written.ensures)))
 
 same_length : tie.Need-same-length invariant-loop decreases-loop
 same_length c = c.before.loop.invariant.1

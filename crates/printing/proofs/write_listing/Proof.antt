@@ -2,12 +2,12 @@
 use Prim.Native.Nat.{ℕ, ◌≤◌}
 use native.Mathlib.Omega.{arith}
 use lib.ListN.{length}
-use Rattle.meaning.specs.Blocks.{orWhole}
+use Rattle.meaning.specs.Blocks.{or_whole}
 use Rattle.sequences.specs.Bounds.{AllUpTo}
-use Rattle.text.specs.Written.{written-more}
-use Rattle.printing.specs.Sizes.{linesSize}
-use Rattle.printing.specs.Lines.{blocksText, listingOf}
-use Rattle.printing.specs.Room.{blocks-short, end_short}
+use Rattle.text.specs.Written.{written_more}
+use Rattle.printing.specs.Sizes.{lines_size}
+use Rattle.printing.specs.Lines.{blocks_text, listing_of}
+use Rattle.printing.specs.Room.{blocks_short, end_short}
 use borrow.Author.Rules.{rules}
 use Rattle.printing.proofs.write_listing.Statement.{statement}
 use Rattle.printing.proofs.write_listing.Tie as tie
@@ -19,11 +19,11 @@ Lines = tie.After-write-blocks
 abbrev entry : Lines → tie.Start
 entry c = c.before.before.before.before.before
 
-short : (c : Lines) → let x = (entry c).args in length (blocksText x.ratios.now x.blocks x.records.now) ≤ linesSize x.blocks (length (orWhole x.ratios.now))
+short : (c : Lines) → let x = (entry c).args in length (blocks_text x.ratios.now x.blocks x.records.now) ≤ lines_size x.blocks (length (or_whole x.ratios.now))
 short c =
     let x = (entry c).args in
     let bytes : AllUpTo 255 x.records.now = λ (j : ℕ). omega (arith, c.before.before.before.shared-slice-known.given j) in
-    blocks-short x.ratios.now x.blocks x.records.now (entry c).requires.small bytes (entry c).requires.all
+    blocks_short x.ratios.now x.blocks x.records.now (entry c).requires.small bytes (entry c).requires.all
 
 write-end-requires : tie.Need-write-end-requires
 write-end-requires c κs =
@@ -31,10 +31,10 @@ write-end-requires c κs =
     omega (arith, short lines, lines.write-blocks.ensures.place, end_short (entry lines).args.blocks (omega arith))
 
 returns : tie.Need-returns
-unfolding listingOf
+unfolding listing_of
 returns c =
     let lines = c.before.before.before.before.before.before in
-    written-more (omega (arith, short lines, lines.write-blocks.ensures.place)) lines.write-blocks.ensures c.before.before.write-end.ensures
+    written_more (omega (arith, short lines, lines.write-blocks.ensures.place)) lines.write-blocks.ensures c.before.before.write-end.ensures
 
 pub write-listing-spec : {M : Type 1} → statement M
 write-listing-spec =

@@ -1,7 +1,7 @@
 -- The word, the blank and the ratio, and the line's end, one behind another.
 use native.Mathlib.Omega.{arith}
-use Rattle.meaning.specs.Listing.{ratioLine}
-use Rattle.text.specs.Written.{written-more}
+use Rattle.meaning.specs.Listing.{ratio_line}
+use Rattle.text.specs.Written.{written_more}
 use Rattle.printing.specs.Lines.{length-ratio}
 use borrow.Author.Rules.{rules}
 use Rattle.printing.proofs.write_ratio.Statement.{statement}
@@ -17,13 +17,13 @@ write-byte-requires : tie.Need-write-byte-requires
 write-byte-requires c κs = omega (arith, length-ratio c.before.before.before.before.before.before.before.before.before.before.before.args.ratio)
 
 returns : tie.Need-returns
-unfolding ratioLine
+unfolding ratio_line
 returns c =
     let end = c.before.before in
     let number = end.before.before.before.before in
     let word = number.before.before.before.before in
     let room = length-ratio word.before.before.before.before.args.ratio in
-    written-more (omega arith) (written-more (omega arith) word.write-text.ensures number.write-amount.ensures) end.write_byte.ensures
+    written_more (omega arith) (written_more (omega arith) word.write-text.ensures number.write-amount.ensures) end.write_byte.ensures
 
 pub write-ratio-spec : {M : Type 1} → statement M
 write-ratio-spec =

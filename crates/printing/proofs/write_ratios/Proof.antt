@@ -3,20 +3,20 @@ use Prim.Native.Nat.{ℕ, ◌+◌, ◌-◌, ◌*◌, ◌≤◌}
 use mathlib.Core.Path.{◌≡◌, refl, ◌∙◌}
 use native.Mathlib.Omega.{arith}
 use lib.ListN.{length, length-take, length-drop}
-use Rattle.meaning.specs.Results.{recordSize}
-use Rattle.meaning.specs.Blocks.{orWhole}
-use Rattle.meaning.specs.Run.{recordBytes}
+use Rattle.meaning.specs.Results.{record_size}
+use Rattle.meaning.specs.Blocks.{or_whole}
+use Rattle.meaning.specs.Run.{record_bytes}
 use Rattle.sequences.specs.Bounds.{AllUpTo}
-use Rattle.text.specs.Written.{Written, written_none, written-more}
-use Rattle.figures.specs.Line.{lineSize}
-use Rattle.printing.specs.Sizes.{ratioSize}
-use Rattle.printing.specs.Lines.{underTo, under_more, under-here}
-use Rattle.printing.specs.Room.{lots-up, lot-fits, under-short, listed-few}
+use Rattle.text.specs.Written.{Written, written_none, written_more}
+use Rattle.figures.specs.Line.{line_size}
+use Rattle.printing.specs.Sizes.{ratio_size}
+use Rattle.printing.specs.Lines.{under_to, under_more, under_here}
+use Rattle.printing.specs.Room.{lots_up, lot_fits, under_short, listed_few}
 use Rattle.printing.proofs.write_ratios.Statement.{statement}
 use Rattle.printing.proofs.write_ratios.Tie as tie
 
 abbrev invariant-loop : tie.invariant-loop
-invariant-loop out₀ records blocks ratios at₀ i₀ out at i = (i ≤ length ratios) × (length out ≡ length out₀) × Written out₀ 0 (underTo i ratios blocks records) out at
+invariant-loop out₀ records blocks ratios at₀ i₀ out at i = (i ≤ length ratios) × (length out ≡ length out₀) × Written out₀ 0 (under_to i ratios blocks records) out at
 
 abbrev decreases-loop : tie.decreases-loop
 decreases-loop out₀ records blocks ratios at₀ i₀ out at i = length ratios - i
@@ -29,18 +29,18 @@ abbrev entry : Turn → tie.Start invariant-loop decreases-loop
 entry c = c.before.before.before.before.before
 
 -- its records are among those there are, and what is written with its lines has room
-lot : (c : Turn) → recordBytes (entry c).args.blocks c.before.loop.i + recordSize * (entry c).args.blocks ≤ length (entry c).args.records.now
+lot : (c : Turn) → record_bytes (entry c).args.blocks c.before.loop.i + record_size * (entry c).args.blocks ≤ length (entry c).args.records.now
 lot c =
     let x = (entry c).args in
-    omega (arith, lot-fits x.blocks c.before.loop.i (length (orWhole x.ratios.now)) (omega (arith, listed-few x.ratios.now)))
+    omega (arith, lot_fits x.blocks c.before.loop.i (length (or_whole x.ratios.now)) (omega (arith, listed_few x.ratios.now)))
 
-room : (c : Turn) → c.before.loop.at + (ratioSize + lineSize * (entry c).args.blocks) ≤ length c.before.loop.out
+room : (c : Turn) → c.before.loop.at + (ratio_size + line_size * (entry c).args.blocks) ≤ length c.before.loop.out
 room c =
     let x = (entry c).args in
     let l = c.before.loop in
     let bytes : AllUpTo 255 x.records.now = λ (j : ℕ). omega (arith, c.before.before.before.shared-slice-known.given j) in
-    let up = lots-up (ratioSize + lineSize * x.blocks) l.i (length (orWhole x.ratios.now)) (omega (arith, listed-few x.ratios.now)) in
-    let before = under-short x.ratios.now x.blocks x.records.now (entry c).requires.small bytes l.i (omega (arith, lot c)) in
+    let up = lots_up (ratio_size + line_size * x.blocks) l.i (length (or_whole x.ratios.now)) (omega (arith, listed_few x.ratios.now)) in
+    let before = under_short x.ratios.now x.blocks x.records.now (entry c).requires.small bytes l.i (omega (arith, lot c)) in
     omega (arith, l.invariant.2.place)
 
 loop-holds : tie.Need-loop-init invariant-loop decreases-loop
@@ -57,8 +57,8 @@ loop-again c =
     let x = (entry t).args in
     let l = t.before.loop in
     let written = c.before.before.write_under in
-    let here = under-here x.ratios.now x.blocks x.records.now l.i written.ensures (omega arith) (omega arith) in
-    (omega arith, written.auto.0 ∙ l.invariant.1, rw under_more (written-more (omega (arith, room t)) l.invariant.2 here))
+    let here = under_here x.ratios.now x.blocks x.records.now l.i written.ensures (omega arith) (omega arith) in
+    (omega arith, written.auto.0 ∙ l.invariant.1, rw under_more (written_more (omega (arith, room t)) l.invariant.2 here))
 
 same_length : tie.Need-same-length invariant-loop decreases-loop
 same_length c = c.before.loop.invariant.1

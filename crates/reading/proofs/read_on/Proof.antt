@@ -9,20 +9,20 @@ use native.Mathlib.Omega.{arith}
 use native.Mathlib.Nat.{le_refl}
 use borrow.Author.Rules.{rules}
 use lib.ListN.{length, drop_of_length-le}
-use Rattle.meaning.specs.Records.{anyFaulty}
+use Rattle.meaning.specs.Records.{any_faulty}
 use Rattle.lines.specs.First.{unfair-line}
 use Rattle.fields.specs.Spans.{Stands}
-use Rattle.fields.specs.Turns.{first-stands}
-use Rattle.records.specs.Rows.{rulesBy}
+use Rattle.fields.specs.Turns.{first_stands}
+use Rattle.records.specs.Rows.{rules_by}
 use Rattle.scanning.specs.FieldsLeft.{left_less, left_near}
 use Rattle.reading.specs.declared.Event.TheVariants as event
-use Rattle.blocks.specs.Meant.{timeIs}
-use Rattle.placing.specs.Places.{due-known, due-time}
+use Rattle.blocks.specs.Meant.{time_is}
+use Rattle.placing.specs.Places.{due_known, due_time}
 use Rattle.taking.specs.Taken.{stays}
-use Rattle.reading.specs.AtLine.{goes, opens-block, ends-deck, foreign-found, none_found, pass-fault, fault-event, ready-form, name-bad, name-good, fault-here, fault-later, scan-later}
+use Rattle.reading.specs.AtLine.{goes, opens_block, ends_deck, foreign-found, none_found, pass_fault, fault_event, ready_form, name_bad, name_good, fault_here, fault_later, scan_later}
 use Rattle.reading.proofs.read_on.Statement.{statement}
 use Rattle.reading.proofs.read_on.Tie as tie
-use Rattle.reading.proofs.read_on.Proof.Points.{does, Inv-loop, μ-loop, Inv-line, μ-line, at-line, next, text, stood, item-at, form-at, fair, turn, short, moved, refused, onward, named, due, did, all-fields, more, few, small, passed, ready_at, due-at, line_refused, line-moved, spanned, line-of, line-named, begun, ended}
+use Rattle.reading.proofs.read_on.Proof.Points.{does, Inv-loop, μ-loop, Inv-line, μ-line, at-line, next, text, stood, item-at, form-at, fair, turn, short, moved, refused, onward, named, due, did, all-fields, more, few, small, passed, ready_at, due_at, line_refused, line_moved, spanned, line-of, line-named, begun, ended}
 
 line-holds : tie.Need-line-init Inv-loop μ-loop Inv-line μ-line
 line-holds c =
@@ -44,18 +44,18 @@ line-again c =
     let x = (at-line at).line in
     let free = c.before.free.given.0.0 in
     let sorted = does c.before.before.before _ c.before.free.given.1 in
-    moved at _ x.cards x.values x.event (ready-form free x.inv.ready) refl x.inv.waiting x.inv.ten (goes (turn at) _ sorted.event)
+    moved at _ x.cards x.values x.event (ready_form free x.inv.ready) refl x.inv.waiting x.inv.ten (goes (turn at) _ sorted.event)
 
 read-name-requires : tie.Need-read-name-requires Inv-loop μ-loop Inv-line μ-line
 read-name-requires c κs = short c.before.before.before.before.before
 
 named-fields-requires : tie.Need-named-fields-requires Inv-loop μ-loop Inv-line μ-line
-named-fields-requires c κs = due-known (at-line (line-of c)).line.r.phase _ (item-at c) _ (due c)
+named-fields-requires c κs = due_known (at-line (line-of c)).line.r.phase _ (item-at c) _ (due c)
 
 loop-holds : tie.Need-loop-init Inv-loop μ-loop Inv-line μ-line
 loop-holds c =
     let at = line-of c.before.before in
-    let stands : Stands (form-at at) (text at) 0 c.first-place.result = rw c.first-place.ensures (first-stands (form-at at) (text at)) in
+    let stands : Stands (form-at at) (text at) 0 c.first-place.result = rw c.first-place.ensures (first_stands (form-at at) (text at)) in
     (refl, refl, refl, record { ten = (at-line at).line.inv.ten; stands = stands; near = omega arith; faults = refl; scans = refl })
 
 next-span-requires : tie.Need-next-span-requires Inv-loop μ-loop Inv-line μ-line
@@ -83,7 +83,7 @@ loop-again c =
     let next = c.before.before.before.before.before.before.next-span.result.next in
     let st = spanned c.before.before.before.before.before.before in
     let nf = c.before.before.before.note-field in
-    let rules = rulesBy (item-at (begun p)) in
+    let rules = rules_by (item-at (begun p)) in
     let fs = st.fields _ (more p) in
     let named = p.before.before.before.before.named-fields.result in
     let near = left_near (length (text (line-of (begun p)))) l.c l.i named next v.3.near (few p) (more p) st.forth in
@@ -95,13 +95,13 @@ loop-again c =
         ten = nf.auto.0 ∙ v.3.ten;
         stands = st.stands;
         near = near;
-        faults = fault-later rules l.i _ _ _ sound (rw fs at v.3.faults);
-        scans = scan-later rules l.i _ _ [] _ _ _ (nf.ensures.1.0 c.before.if4.false) (rw fs at v.3.scans);
+        faults = fault_later rules l.i _ _ _ sound (rw fs at v.3.faults);
+        scans = scan_later rules l.i _ _ [] _ _ _ (nf.ensures.1.0 c.before.if4.false) (rw fs at v.3.scans);
       },
     )
 
 take-item-requires : tie.Need-take-item-requires Inv-loop μ-loop Inv-line μ-line
-take-item-requires c κs = let p = c.before.before.before in ((c.before.before.if5.true, ready_at p, due-at p), passed p)
+take-item-requires c κs = let p = c.before.before.before in ((c.before.before.if5.true, ready_at p, due_at p), passed p)
 
 line-less-2 : tie.Need-line-smaller-2 Inv-loop μ-loop Inv-line μ-line
 line-less-2 c = let f = fair (line-of (ended c.before.before.before.before.before.before.before)) in omega arith
@@ -110,13 +110,13 @@ line-again-2 : tie.Need-line-preserved-2 Inv-loop μ-loop Inv-line μ-line
 line-again-2 c =
     let p = c.before.before.before.before.before.before.before in
     let t = c.before.before.before.take-item in
-    line-moved p (stays p.before.before.loop.r t.result) t.new.1.1.1.1.0 t.ensures c.if6.false t.auto.1.1.1.1.0
+    line_moved p (stays p.before.before.loop.r t.result) t.new.1.1.1.1.0 t.ensures c.if6.false t.auto.1.1.1.1.0
 
 take-control-requires : tie.Need-take-control-requires Inv-loop μ-loop Inv-line μ-line
 take-control-requires c κs =
     let p = c.before.before in
     let l = p.before.before.loop in
-    (due-time l.r.phase (timeIs l.r.time) (item-at (ended p)) l.cards (due-at p) c.before.if5.false, passed p)
+    (due_time l.r.phase (time_is l.r.time) (item-at (ended p)) l.cards (due_at p) c.before.if5.false, passed p)
 
 line-less-3 : tie.Need-line-smaller-3 Inv-loop μ-loop Inv-line μ-line
 line-less-3 c = let f = fair (line-of (ended c.before.before.before.before.before)) in omega arith
@@ -125,7 +125,7 @@ line-again-3 : tie.Need-line-preserved-3 Inv-loop μ-loop Inv-line μ-line
 line-again-3 c =
     let p = c.before.before.before.before.before in
     let t = c.before.before.take-control in
-    line-moved p t.result p.before.before.loop.cards (t.ensures _ (ready_at p)) c.before.if7.false refl
+    line_moved p t.result p.before.before.loop.cards (t.ensures _ (ready_at p)) c.before.if7.false refl
 
 same_length : tie.Need-same-length Inv-loop μ-loop Inv-line μ-line
 same_length c = c.before.line.invariant.long
@@ -150,7 +150,7 @@ same-length-3 c = (at-line (line-named c.before)).line.inv.long
 
 returns-3 : tie.Need-returns-3 Inv-loop μ-loop Inv-line μ-line
 returns-3 c =
-    record { found = refused (line-named c.before) 6 (named c.before ∙ name-bad (stood (line-named c.before)) _ (sym c.before.read_name.ensures.bad ∙ c.if2.true)); onward = tt }
+    record { found = refused (line-named c.before) 6 (named c.before ∙ name_bad (stood (line-named c.before)) _ (sym c.before.read_name.ensures.bad ∙ c.if2.true)); onward = tt }
 
 same-length-4 : tie.Need-same-length-4 Inv-loop μ-loop Inv-line μ-line
 same-length-4 c = (at-line (line-named c.before.before)).line.inv.long
@@ -159,8 +159,8 @@ returns-4 : tie.Need-returns-4 Inv-loop μ-loop Inv-line μ-line
 returns-4 c =
     let at = line-named c.before.before in
     let label = c.before.before.read_name in
-    let good = name-good (stood at) _ (sym label.ensures.bad ∙ c.before.if2.false) in
-    record { found = opens-block (turn at) _ _ (label.ensures.same c.before.if2.false) (named c.before.before ∙ good); onward = onward at event.Opened _ label.ensures.short }
+    let good = name_good (stood at) _ (sym label.ensures.bad ∙ c.before.if2.false) in
+    record { found = opens_block (turn at) _ _ (label.ensures.same c.before.if2.false) (named c.before.before ∙ good); onward = onward at event.Opened _ label.ensures.short }
 
 same-length-5 : tie.Need-same-length-5 Inv-loop μ-loop Inv-line μ-line
 same-length-5 c = (at-line c.before.before.before.before.before).line.inv.long
@@ -169,7 +169,7 @@ returns-5 : tie.Need-returns-5 Inv-loop μ-loop Inv-line μ-line
 returns-5 c =
     let at = c.before.before.before.before.before in
     let sorted = does c.before.before _ c.enum-told2.given.1 in
-    record { found = ends-deck (turn at) _ sorted.event; onward = onward at event.Ended _ (at-line at).line.invariant.letters }
+    record { found = ends_deck (turn at) _ sorted.event; onward = onward at event.Ended _ (at-line at).line.invariant.letters }
 
 same-length-6 : tie.Need-same-length-6 Inv-loop μ-loop Inv-line μ-line
 same-length-6 c = let p = c.before.before.before.before.before.before in ap length p.before.before.loop.invariant.0 ∙ (at-line (line-of (begun p))).line.inv.long
@@ -181,11 +181,11 @@ returns-6 c =
     let l = c.before.before.before.before.before.before.before.before.loop in
     let named = c.before.before.before.before.before.before.before.before.before.before.named-fields in
     let fs = (spanned c.before.before.before.before.before).fields named.result (more c.before.before.before.before.before.before) in
-    let bad = fault-here (rulesBy (item-at at)) l.i _ _ _ (sym c.before.before.note-field.ensures.0 ∙ c.if4.true) (rw fs at l.invariant.3.faults) in
+    let bad = fault_here (rules_by (item-at at)) l.i _ _ _ (sym c.before.before.note-field.ensures.0 ∙ c.if4.true) (rw fs at l.invariant.3.faults) in
     let first = c.before.before.before.before.before.before.before.before.before.first-place in
-    let worse : anyFaulty (rulesBy (item-at at)) 0 (all-fields at) ≡ true = rw (named.ensures, first.ensures) at bad in
-    let fault = pass-fault (item-at at) (form-at (line-of at)) (text (line-of at)) worse in
-    record { found = refused (line-of at) 6 (did at ∙ fault-event (item-at at) x.r x.cards _ (due at) fault); onward = tt }
+    let worse : any_faulty (rules_by (item-at at)) 0 (all-fields at) ≡ true = rw (named.ensures, first.ensures) at bad in
+    let fault = pass_fault (item-at at) (form-at (line-of at)) (text (line-of at)) worse in
+    record { found = refused (line-of at) 6 (did at ∙ fault_event (item-at at) x.r x.cards _ (due at) fault); onward = tt }
 
 same-length-7 : tie.Need-same-length-7 Inv-loop μ-loop Inv-line μ-line
 same-length-7 c =

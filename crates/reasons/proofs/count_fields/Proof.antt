@@ -8,8 +8,8 @@ use borrow.Author.Rules.{rules}
 use lib.ListN.{length}
 use Rattle.meaning.specs.Fields.{fields_of}
 use Rattle.fields.specs.Spans.{form_of, Stands}
-use Rattle.fields.specs.Turns.{Turn, turn, first-stands}
-use Rattle.reasons.specs.Counts.{counted, count-first, count-end, count-filled, count-blank}
+use Rattle.fields.specs.Turns.{Turn, turn, first_stands}
+use Rattle.reasons.specs.Counts.{counted, count_first, count-end, count-filled, count-blank}
 use Rattle.reasons.proofs.count_fields.Statement.{statement}
 use Rattle.reasons.proofs.count_fields.Tie as tie
 
@@ -31,11 +31,11 @@ loop-holds c =
     let x = c.before.before.args in
     let form = form_of x.free in
     record {
-      stands = rw c.first-place.ensures (first-stands form x.l.now);
+      stands = rw c.first-place.ensures (first_stands form x.l.now);
       behind = omega arith;
       few = omega arith;
       within = omega arith;
-      counts = rw c.first-place.ensures (count-first form x.l.now);
+      counts = rw c.first-place.ensures (count_first form x.l.now);
     }
 
 span-at-requires : tie.Need-span-at-requires invariant-loop decreases-loop

@@ -1,10 +1,10 @@
 -- What is read of the field tells: a fault is refused by 6 and not by 7, and a value is refused by 7 where it is outside its limits.
 use mathlib.Core.Path.{◌≡◌, subst}
 use borrow.Author.Rules.{rules}
-use Rattle.meaning.specs.Records.{faultyField, outsideField, value_of}
+use Rattle.meaning.specs.Records.{faulty_field, outside_field, value_of}
 use Rattle.rules.specs.declared.Field.{Field}
-use Rattle.rules.specs.Rules.{ruleBy, FieldIs}
-use Rattle.reasons.specs.ByRecord.{refused-faulty, refused-six, refused-seven}
+use Rattle.rules.specs.Rules.{rule_by, FieldIs}
+use Rattle.reasons.specs.ByRecord.{refused_faulty, refused-six, refused-seven}
 use Rattle.reasons.proofs.is_refused.Statement.{statement}
 use Rattle.reasons.proofs.is_refused.Tie as tie
 
@@ -13,7 +13,7 @@ abbrev Read : Type 0
 Read = tie.After-read-field
 
 abbrev Is : Read → Field → Type 0
-Is c x = let y = c.before.before.args in FieldIs x (faultyField (ruleBy y.rule) y.f.now) (outsideField (ruleBy y.rule) y.f.now) (value_of (ruleBy y.rule) y.f.now)
+Is c x = let y = c.before.before.args in FieldIs x (faulty_field (rule_by y.rule) y.f.now) (outside_field (rule_by y.rule) y.f.now) (value_of (rule_by y.rule) y.f.now)
 
 is : (c : Read) (x : Field) → c.read-field.result ≡ x → Is c x
 is c x e = subst (Is c) e c.read-field.ensures
@@ -22,19 +22,19 @@ returns : tie.Need-returns
 returns c =
     let read = c.before.before.before.before in
     let y = read.before.before.args in
-    refused-six (ruleBy y.rule) y.f.now y.six c.if1.true (is read _ c.before.before.outside.given.1).0
+    refused-six (rule_by y.rule) y.f.now y.six c.if1.true (is read _ c.before.before.outside.given.1).0
 
 returns-2 : tie.Need-returns-2
 returns-2 c =
     let read = c.before.before in
     let y = read.before.before.args in
-    refused-faulty (ruleBy y.rule) y.f.now y.six (is read _ c.enum_told.given.1)
+    refused_faulty (rule_by y.rule) y.f.now y.six (is read _ c.enum_told.given.1)
 
 returns-3 : tie.Need-returns-3
 returns-3 c =
     let read = c.before.before.before.before in
     let y = read.before.before.args in
-    refused-seven (ruleBy y.rule) y.f.now y.six _ c.if1.false (is read _ c.before.before.outside.given.1).1
+    refused-seven (rule_by y.rule) y.f.now y.six _ c.if1.false (is read _ c.before.before.outside.given.1).1
 
 pub is-refused-spec : {M : Type 1} → statement M
 is-refused-spec = tie.close (tie.spec (λ c κs. search rules) (λ c. search rules) (λ c. search rules) returns returns-2 returns-3)

@@ -9,8 +9,8 @@ use lib.Seq.{length-take-le}
 use Rattle.fields.specs.Spans.{form_of}
 use Rattle.lines.specs.First.{fair-line, unfair-line}
 use Rattle.text.specs.Written.{Written, written_none}
-use Rattle.text.specs.Counted.{written-counted}
-use Rattle.reasons.specs.FirstLine.{FirstLine, first-line, no_line, fair-reason, foreign-reason}
+use Rattle.text.specs.Counted.{written_counted}
+use Rattle.reasons.specs.FirstLine.{FirstLine, first_line, no_line, fair_reason, foreign-reason}
 use Rattle.reasons.proofs.reason_line.Statement.{statement}
 use Rattle.reasons.proofs.reason_line.Tie as tie
 
@@ -22,7 +22,7 @@ returns : tie.Need-returns
 returns c =
     let x = c.before.before.before.args in
     let none = nothing _ x.out.now (no_line x.six (form_of x.free) x.s.now c.if1.true) in
-    (none, written-counted none)
+    (none, written_counted none)
 
 -- A LINE FOUND
 abbrev Found : Type 0
@@ -32,7 +32,7 @@ abbrev entry : Found → tie.Start
 entry c = c.before.before.before.before
 
 first : (c : Found) → c.line_at_lem.result.fair ≡ true → FirstLine (entry c).args.s.now c.line_at_lem.result.end c.line_at_lem.result.next
-first c fair = first-line (fair-line (entry c).args.s.now 0 c.line_at_lem.result (omega arith) c.line_at_lem.ensures fair)
+first c fair = first_line (fair-line (entry c).args.s.now 0 c.line_at_lem.result (omega arith) c.line_at_lem.ensures fair)
 
 slice-aggregate-write-line : tie.Need-slice-aggregate-write-line
 slice-aggregate-write-line c = let found = c.before.before.before in sym (length-take-le _ _ (first found c.before.before.if2.true).within)
@@ -49,8 +49,8 @@ returns-2 c =
     let x = (entry found).args in
     let written = c.before.before.write-line in
     let f = first found c.before.before.before.before.before.if2.true in
-    let told = subst (λ (t : List ℕ). Written x.out.now 0 t written.new.0 written.result) (sym (fair-reason x.six (form_of x.free) f)) written.ensures in
-    (told, written-counted told)
+    let told = subst (λ (t : List ℕ). Written x.out.now 0 t written.new.0 written.result) (sym (fair_reason x.six (form_of x.free) f)) written.ensures in
+    (told, written_counted told)
 
 returns-3 : tie.Need-returns-3
 returns-3 c =
@@ -58,7 +58,7 @@ returns-3 c =
     let x = (entry found).args in
     let foreign = unfair-line x.s.now 0 found.line_at_lem.result (omega arith) found.line_at_lem.ensures c.if2.false in
     let none = nothing _ x.out.now (foreign-reason x.six (form_of x.free) foreign) in
-    (none, written-counted none)
+    (none, written_counted none)
 
 pub reason-line-spec : {M : Type 1} → statement M
 reason-line-spec =

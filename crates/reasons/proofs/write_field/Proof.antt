@@ -2,11 +2,11 @@
 use Prim.Native.Nat.{◌+◌, ◌≤◌}
 use native.Mathlib.Omega.{arith}
 use borrow.Author.Rules.{rules}
-use Rattle.rules.specs.Rules.{ruleBy}
-use Rattle.text.specs.Digits.{whole-within}
-use Rattle.text.specs.Written.{written-more}
-use Rattle.reasons.specs.Sizes.{whySize}
-use Rattle.reasons.specs.Texts.{field-short, field-parts}
+use Rattle.rules.specs.Rules.{rule_by}
+use Rattle.text.specs.Digits.{whole_within}
+use Rattle.text.specs.Written.{written_more}
+use Rattle.reasons.specs.Sizes.{why_size}
+use Rattle.reasons.specs.Texts.{field_short, field_parts}
 use Rattle.reasons.proofs.write_field.Statement.{statement}
 use Rattle.reasons.proofs.write_field.Tie as tie
 
@@ -34,27 +34,27 @@ behind-word : (c : tie.After-write-text) → c.write-text.result ≤ 6
 behind-word c = omega (arith, c.write-text.ensures.place)
 
 behind-number : (c : tie.After-write-whole) → c.write-whole.result ≤ 26
-behind-number c = omega (arith, c.write-whole.ensures.place, behind-word (word c), whole-within (entry (word c)).args.k)
+behind-number c = omega (arith, c.write-whole.ensures.place, behind-word (word c), whole_within (entry (word c)).args.k)
 
 behind-blank : (c : tie.After-write-byte) → c.write_byte.result ≤ 27
 behind-blank c = omega (arith, c.write_byte.ensures.place, behind-number (number c))
 
-behind-why : (c : tie.After-write-field-reason) → c.write-field-reason.result ≤ 27 + whySize
+behind-why : (c : tie.After-write-field-reason) → c.write-field-reason.result ≤ 27 + why_size
 behind-why c =
     let x = (entry (word (number (blank c)))).args in
-    omega (arith, c.write-field-reason.ensures.place, behind-blank (blank c), field-short (ruleBy x.rule) x.f.now)
+    omega (arith, c.write-field-reason.ensures.place, behind-blank (blank c), field_short (rule_by x.rule) x.f.now)
 
-behind-next : (c : tie.After-write-byte2) → c.write-byte2.result ≤ 28 + whySize
+behind-next : (c : tie.After-write-byte2) → c.write-byte2.result ≤ 28 + why_size
 behind-next c = omega (arith, c.write-byte2.ensures.place, behind-why (why c))
 
 abbrev start : tie.After-write-text2 → tie.Start
 start c = entry (word (number (blank (why (next c)))))
 
-behind-field : (c : tie.After-write-text2) → c.write-text2.result ≤ 108 + whySize
+behind-field : (c : tie.After-write-text2) → c.write-text2.result ≤ 108 + why_size
 behind-field c = omega (arith, c.write-text2.ensures.place, behind-next (next c), (start c).requires.0)
 
 write-whole-requires : tie.Need-write-whole-requires
-write-whole-requires c κs = let p = c.before.before.before in omega (arith, behind-word p, whole-within (entry p).args.k, (entry p).requires.1)
+write-whole-requires c κs = let p = c.before.before.before in omega (arith, behind-word p, whole_within (entry p).args.k, (entry p).requires.1)
 
 write-byte-requires : tie.Need-write-byte-requires
 write-byte-requires c κs = let p = c.before.before.before in omega (arith, behind-number p, (entry (word p)).requires.1)
@@ -89,13 +89,13 @@ returns c =
     let word = word number in
     let s = entry word in
     let room = s.pre.1 in
-    rw (field-parts s.args.k (ruleBy s.args.rule) s.args.f.now)
-    (written-more (omega (arith, behind-field field, room))
-    (written-more (omega (arith, behind-next next, room))
-    (written-more (omega (arith, behind-why why, room))
-    (written-more (omega (arith, behind-blank blank, room))
-    (written-more (omega (arith, behind-number number, room))
-    (written-more (omega (arith, behind-word word, room)) word.write-text.ensures number.write-whole.ensures)
+    rw (field_parts s.args.k (rule_by s.args.rule) s.args.f.now)
+    (written_more (omega (arith, behind-field field, room))
+    (written_more (omega (arith, behind-next next, room))
+    (written_more (omega (arith, behind-why why, room))
+    (written_more (omega (arith, behind-blank blank, room))
+    (written_more (omega (arith, behind-number number, room))
+    (written_more (omega (arith, behind-word word, room)) word.write-text.ensures number.write-whole.ensures)
     blank.write_byte.ensures)
     why.write-field-reason.ensures)
     next.write-byte2.ensures)

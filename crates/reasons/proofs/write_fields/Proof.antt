@@ -8,31 +8,31 @@ use borrow.Author.Rules.{rules}
 use lib.ListN.{length, take}
 use Rattle.sequences.specs.Parts.{part, length_part}
 use Rattle.meaning.specs.Fields.{fields_of}
-use Rattle.meaning.specs.Records.{Item, Rule, ruleAt}
-use Rattle.meaning.specs.Reasons.{fieldLine, firstField, refusedBy}
+use Rattle.meaning.specs.Records.{Item, Rule, rule_at}
+use Rattle.meaning.specs.Reasons.{field_line, first_field, refused_by}
 use Rattle.fields.specs.Spans.{form_of, Stands}
-use Rattle.fields.specs.Turns.{first-stands}
-use Rattle.rules.specs.Rules.{ruleBy}
-use Rattle.scanning.specs.FieldsLeft.{leftFields, SpanTurn, span-turn}
+use Rattle.fields.specs.Turns.{first_stands}
+use Rattle.rules.specs.Rules.{rule_by}
+use Rattle.scanning.specs.FieldsLeft.{left_fields, SpanTurn, span_turn}
 use Rattle.text.specs.Written.{Written, written_none}
-use Rattle.reasons.specs.Stated.{statedRules, statedFields}
-use Rattle.reasons.specs.FirstFields.{seen_first, field-here, field-passed, still-left, none_seen}
+use Rattle.reasons.specs.Stated.{stated_rules, stated_fields}
+use Rattle.reasons.specs.FirstFields.{seen_first, field-here, field_passed, still_left, none_seen}
 use Rattle.reasons.proofs.write_fields.Statement.{statement}
 use Rattle.reasons.proofs.write_fields.Tie as tie
 
 -- the first field that is refused, of those from field i on that are left to see
-abbrev firstFrom : (six free : Bool) (item : Item) (l : List ℕ) (all i c : ℕ) → List ℕ
-firstFrom six free item l all i c = firstField (refusedBy six) (statedRules item) i (take (all - i) (leftFields (form_of free) all i c l))
+abbrev first_from : (six free : Bool) (item : Item) (l : List ℕ) (all i c : ℕ) → List ℕ
+first_from six free item l all i c = first_field (refused_by six) (stated_rules item) i (take (all - i) (left_fields (form_of free) all i c l))
 
 abbrev first_of : (six free : Bool) (item : Item) (l : List ℕ) → List ℕ
-first_of six free item l = firstField (refusedBy six) (statedRules item) 0 (statedFields item (fields_of (form_of free) l))
+first_of six free item l = first_field (refused_by six) (stated_rules item) 0 (stated_fields item (fields_of (form_of free) l))
 
 record Seeking (out₀ : List ℕ) (six free : Bool) (item : Item) (l : List ℕ) (all : ℕ) (out : List ℕ) (c i : ℕ) : Type 0 where
   same : out ≡ out₀
   up : i ≤ all
   few : all ≤ 80
   stands : Stands (form_of free) l i c
-  goes : firstFrom six free item l all i c ≡ first_of six free item l
+  goes : first_from six free item l all i c ≡ first_of six free item l
 
 abbrev invariant-loop : tie.invariant-loop
 invariant-loop out₀ six free item l all c₀ i₀ out c i = Seeking out₀ six free item l all out c i
@@ -50,10 +50,10 @@ loop-holds c =
       same = refl;
       up = omega arith;
       few = all.ensures.1;
-      stands = rw c.first-place.ensures (first-stands form x.l.now);
+      stands = rw c.first-place.ensures (first_stands form x.l.now);
       goes =
           rw (zero, c.first-place.ensures)
-          (ap (firstField (refusedBy x.six) (statedRules x.item) 0) (seen_first x.item form x.l.now all.result all.ensures.0));
+          (ap (first_field (refused_by x.six) (stated_rules x.item) 0) (seen_first x.item form x.l.now all.result all.ensures.0));
     }
 
 next-span-requires : tie.Need-next-span-requires invariant-loop decreases-loop
@@ -80,15 +80,15 @@ below c = omega arith
 turned : (c : Left) → SpanTurn (form_of (entry c).args.free) (entry c).args.l.now (at c).loop.i (at c).loop.c c.next-span.result
 turned c =
     let x = (entry c).args in
-    span-turn (form_of x.free) x.l.now (at c).loop.i (at c).loop.c c.next-span.result (entry c).requires.1 (at c).loop.invariant.stands c.next-span.ensures
+    span_turn (form_of x.free) x.l.now (at c).loop.i (at c).loop.c c.next-span.result (entry c).requires.1 (at c).loop.invariant.stands c.next-span.ensures
 
 abbrev field : Left → List ℕ
 field c = let r = c.next-span.result in part r.from (r.to - r.from) (entry c).args.l.now
 
 -- it is the first of those left
 shown : (c : Left) → let x = (entry c).args in let l = (at c).loop in
-    leftFields (form_of x.free) (all c) l.i l.c x.l.now ≡ field c ∷ (leftFields (form_of x.free) (all c) (l.i + 1) c.next-span.result.next x.l.now)
-shown c = let x = (entry c).args in let l = (at c).loop in (turned c).fields (all c) (still-left (length x.l.now) l.c l.i (all c) (below c))
+    left_fields (form_of x.free) (all c) l.i l.c x.l.now ≡ field c ∷ (left_fields (form_of x.free) (all c) (l.i + 1) c.next-span.result.next x.l.now)
+shown c = let x = (entry c).args in let l = (at c).loop in (turned c).fields (all c) (still_left (length x.l.now) l.c l.i (all c) (below c))
 
 short : (c : Left) → length (field c) ≤ 80
 short c =
@@ -128,24 +128,24 @@ abbrev seen : Asked → Left
 seen c = c.before.before.before
 
 abbrev rule : Asked → Rule
-rule c = let x = (entry (seen c)).args in ruleAt (statedRules x.item) (at (seen c)).loop.i
+rule c = let x = (entry (seen c)).args in rule_at (stated_rules x.item) (at (seen c)).loop.i
 
-stated : (c : Asked) → ruleBy c.before.before.stated-rule.result ≡ rule c
+stated : (c : Asked) → rule_by c.before.before.stated-rule.result ≡ rule c
 stated c = c.before.before.stated-rule.ensures.0
 
-told : (c : Asked) → c.is-refused.result ≡ refusedBy (entry (seen c)).args.six (rule c) (field (seen c))
-told c = c.is-refused.ensures ∙ ap (λ (r : Rule). refusedBy (entry (seen c)).args.six r (field (seen c))) (stated c)
+told : (c : Asked) → c.is-refused.result ≡ refused_by (entry (seen c)).args.six (rule c) (field (seen c))
+told c = c.is-refused.ensures ∙ ap (λ (r : Rule). refused_by (entry (seen c)).args.six r (field (seen c))) (stated c)
 
 abbrev later : Asked → List (List ℕ)
-later c = let x = (entry (seen c)).args in leftFields (form_of x.free) (all (seen c)) ((at (seen c)).loop.i + 1) (seen c).next-span.result.next x.l.now
+later c = let x = (entry (seen c)).args in left_fields (form_of x.free) (all (seen c)) ((at (seen c)).loop.i + 1) (seen c).next-span.result.next x.l.now
 
 -- the first of those left to see, the field in front
 in-front : (c : Asked) → let x = (entry (seen c)).args in let l = (at (seen c)).loop in
-    firstField (refusedBy x.six) (statedRules x.item) l.i (take (all (seen c) - l.i) (field (seen c) ∷ later c)) ≡ first_of x.six x.free x.item x.l.now
+    first_field (refused_by x.six) (stated_rules x.item) l.i (take (all (seen c) - l.i) (field (seen c) ∷ later c)) ≡ first_of x.six x.free x.item x.l.now
 in-front c =
     let x = (entry (seen c)).args in
     let l = (at (seen c)).loop in
-    ap (λ (gs : List (List ℕ)). firstField (refusedBy x.six) (statedRules x.item) l.i (take (all (seen c) - l.i) gs)) (sym (shown (seen c))) ∙ l.inv.goes
+    ap (λ (gs : List (List ℕ)). first_field (refused_by x.six) (stated_rules x.item) l.i (take (all (seen c) - l.i) gs)) (sym (shown (seen c))) ∙ l.inv.goes
 
 some_left : (c : Asked) → 0 < all (seen c) - (at (seen c)).loop.i
 some_left c = omega (arith, below (seen c))
@@ -156,11 +156,11 @@ returns c =
     let x = (entry (seen asked)).args in
     let l = (at (seen asked)).loop in
     let written = c.before.before.write-field in
-    let test = refusedBy x.six in
-    let here = field-here test (statedRules x.item) l.i (field (seen asked)) (later asked) (all (seen asked) - l.i) (some_left asked) (sym (told asked) ∙ c.before.before.before.before.before.if1.true) in
-    let text = ap (λ (r : Rule). fieldLine (l.i + 1) r (field (seen asked))) (stated asked) ∙ sym here ∙ in-front asked in
-    let same : Written x.out.now 0 (fieldLine (l.i + 1) (ruleBy asked.before.before.stated-rule.result) (field (seen asked))) written.new.0 written.result =
-    subst (λ (o : List ℕ). Written o 0 (fieldLine (l.i + 1) (ruleBy asked.before.before.stated-rule.result) (field (seen asked))) written.new.0 written.result) l.inv.same written.ensures in
+    let test = refused_by x.six in
+    let here = field-here test (stated_rules x.item) l.i (field (seen asked)) (later asked) (all (seen asked) - l.i) (some_left asked) (sym (told asked) ∙ c.before.before.before.before.before.if1.true) in
+    let text = ap (λ (r : Rule). field_line (l.i + 1) r (field (seen asked))) (stated asked) ∙ sym here ∙ in-front asked in
+    let same : Written x.out.now 0 (field_line (l.i + 1) (rule_by asked.before.before.stated-rule.result) (field (seen asked))) written.new.0 written.result =
+    subst (λ (o : List ℕ). Written o 0 (field_line (l.i + 1) (rule_by asked.before.before.stated-rule.result) (field (seen asked))) written.new.0 written.result) l.inv.same written.ensures in
     subst (λ (t : List ℕ). Written x.out.now 0 t written.new.0 written.result) text same
 
 loop-again : tie.Need-loop-preserved invariant-loop decreases-loop
@@ -169,20 +169,20 @@ loop-again c =
     let x = (entry (seen asked)).args in
     let l = (at (seen asked)).loop in
     let n : all (seen asked) - l.i - 1 ≡ all (seen asked) - (l.i + 1) = omega arith in
-    let past = field-passed (refusedBy x.six) (statedRules x.item) l.i (field (seen asked)) (later asked) (all (seen asked) - l.i) (some_left asked) (sym (told asked) ∙ c.if1.false) in
+    let past = field_passed (refused_by x.six) (stated_rules x.item) l.i (field (seen asked)) (later asked) (all (seen asked) - l.i) (some_left asked) (sym (told asked) ∙ c.if1.false) in
     record {
       same = l.inv.same;
       up = omega (arith, below (seen asked));
       few = l.inv.few;
       stands = (turned (seen asked)).stands;
-      goes = ap (λ (m : ℕ). firstField (refusedBy x.six) (statedRules x.item) (l.i + 1) (take m (later asked))) (sym n) ∙ sym past ∙ in-front asked;
+      goes = ap (λ (m : ℕ). first_field (refused_by x.six) (stated_rules x.item) (l.i + 1) (take m (later asked))) (sym n) ∙ sym past ∙ in-front asked;
     }
 
 returns-2 : tie.Need-returns-2 invariant-loop decreases-loop
 returns-2 c =
     let x = c.before.before.before.before.before.before.args in
     let l = c.before.loop in
-    let none : first_of x.six x.free x.item x.l.now ≡ [] = sym l.invariant.goes ∙ none_seen (refusedBy x.six) (statedRules x.item) l.i (c.before.before.before.fields-to-see.result - l.i) (leftFields (form_of x.free) c.before.before.before.fields-to-see.result l.i l.c x.l.now) (omega arith) in
+    let none : first_of x.six x.free x.item x.l.now ≡ [] = sym l.invariant.goes ∙ none_seen (refused_by x.six) (stated_rules x.item) l.i (c.before.before.before.fields-to-see.result - l.i) (left_fields (form_of x.free) c.before.before.before.fields-to-see.result l.i l.c x.l.now) (omega arith) in
     rw (none, l.invariant.same) (written_none x.out.now 0)
 
 pub write-fields-spec : {M : Type 1} → statement M

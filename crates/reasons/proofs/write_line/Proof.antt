@@ -3,7 +3,7 @@ use mathlib.Core.Path.{◌≡◌, sym, ap, subst, ◌∙◌}
 use borrow.Author.Rules.{rules}
 use Rattle.meaning.specs.Run as run
 use Rattle.identifiers.specs.declared.Head.{Head}
-use Rattle.identifiers.specs.Heads.{headIs, Inside, plainHead}
+use Rattle.identifiers.specs.Heads.{head_is, Inside, plain_head}
 use Rattle.text.specs.Written.{written_none}
 use Rattle.reasons.proofs.write_line.Statement.{statement}
 use Rattle.reasons.proofs.write_line.Tie as tie
@@ -12,8 +12,8 @@ use Rattle.reasons.proofs.write_line.Tie as tie
 abbrev Found : Type 0
 Found = tie.After-head-of
 
-is : (c : Found) (h : Head) → c.head_of.result ≡ h → plainHead c.before.before.before.args.l.now ≡ headIs h
-is c h e = sym c.head_of.ensures.0 ∙ ap headIs e
+is : (c : Found) (h : Head) → c.head_of.result ≡ h → plain_head c.before.before.before.args.l.now ≡ head_is h
+is c h e = sym c.head_of.ensures.0 ∙ ap head_is e
 
 write-record-requires : tie.Need-write-record-requires
 write-record-requires c κs =

@@ -6,7 +6,7 @@ use lib.ListN.{length}
 use Rattle.sequences.specs.Parts.{part, length_part}
 use Rattle.fields.specs.Spans.{form_of}
 use Rattle.fields.specs.NameLaws.{NameAt, name-found}
-use Rattle.text.specs.Written.{written-more}
+use Rattle.text.specs.Written.{written_more}
 use Rattle.reasons.proofs.write_name.Statement.{statement}
 use Rattle.reasons.proofs.write_name.Tie as tie
 
@@ -51,8 +51,8 @@ returns c =
     let word = c.before.before.before.before.before.before.before.before.before.before.before.write-text in
     let name = c.before.before.before.before.before.before.write-text2 in
     let room = (entry n).requires.1 in
-    written-more (omega (arith, word.ensures.place, name.ensures.place, long n, room))
-    (written-more (omega (arith, word.ensures.place, room)) word.ensures (rw (stands n).name at name.ensures))
+    written_more (omega (arith, word.ensures.place, name.ensures.place, long n, room))
+    (written_more (omega (arith, word.ensures.place, room)) word.ensures (rw (stands n).name at name.ensures))
     c.before.before.write_byte.ensures
 
 pub write-name-spec : {M : Type 1} → statement M

@@ -10,7 +10,7 @@ use Rattle.fields.specs.Spans.{form_of}
 use Rattle.records.specs.Rows.{items}
 use Rattle.identifiers.specs.Heads.{OfTable}
 use Rattle.text.specs.Written.{Written, written_none}
-use Rattle.reasons.specs.ByRecord.{item-reason}
+use Rattle.reasons.specs.ByRecord.{item_reason}
 use Rattle.reasons.proofs.write_record.Statement.{statement}
 use Rattle.reasons.proofs.write_record.Tie as tie
 
@@ -43,7 +43,7 @@ returns-4 c =
     let k = c.before.before.before.before in
     let x = (entry k).args in
     let written = c.before.before.write-fields3 in
-    let same = item-reason x.six _ (fields_of (form_of x.free) x.l.now) (inside k) in
+    let same = item_reason x.six _ (fields_of (form_of x.free) x.l.now) (inside k) in
     rw k.before.k.given.1 (subst (λ (t : List ℕ). Written x.out.now 0 t written.new.0 written.result) same written.ensures)
 
 pub write-record-spec : {M : Type 1} → statement M

@@ -3,8 +3,8 @@ use Prim.Native.Nat.{◌+◌, ◌≤◌}
 use native.Mathlib.Omega.{arith}
 use borrow.Author.Rules.{rules}
 use lib.ListN.{length}
-use Rattle.text.specs.Digits.{whole-within}
-use Rattle.text.specs.Written.{written-more}
+use Rattle.text.specs.Digits.{whole_within}
+use Rattle.text.specs.Written.{written_more}
 use Rattle.reasons.proofs.write_rule.Statement.{statement}
 use Rattle.reasons.proofs.write_rule.Tie as tie
 
@@ -26,21 +26,21 @@ behind-word : (c : tie.After-write-text) → c.write-text.result ≤ (entry c).a
 behind-word c = omega (arith, c.write-text.ensures.place)
 
 behind-first : (c : tie.After-write-number) → let x = (entry (word c)).args in c.write-number.result ≤ x.at + length x.word.now + 21
-behind-first c = omega (arith, c.write-number.ensures.place, behind-word (word c), whole-within (entry (word c)).args.most)
+behind-first c = omega (arith, c.write-number.ensures.place, behind-word (word c), whole_within (entry (word c)).args.most)
 
 behind-second : (c : tie.After-write-number2) → let x = (entry (word (first c))).args in c.write-number2.result ≤ x.at + length x.word.now + 42
 behind-second c =
     let x = (entry (word (first c))).args in
-    omega (arith, c.write-number2.ensures.place, behind-first (first c), whole-within x.low, whole-within x.high)
+    omega (arith, c.write-number2.ensures.place, behind-first (first c), whole_within x.low, whole_within x.high)
 
 write-number-requires : tie.Need-write-number-requires
-write-number-requires c κs = let w = c.before.before.before in omega (arith, behind-word w, whole-within (entry w).args.most, (entry w).requires)
+write-number-requires c κs = let w = c.before.before.before in omega (arith, behind-word w, whole_within (entry w).args.most, (entry w).requires)
 
 write-number-requires-2 : tie.Need-write-number-requires-2
-write-number-requires-2 c κs = let n = c.before.before.before in let x = entry (word n) in omega (arith, behind-first n, whole-within x.args.low, whole-within x.args.high, x.pre)
+write-number-requires-2 c κs = let n = c.before.before.before in let x = entry (word n) in omega (arith, behind-first n, whole_within x.args.low, whole_within x.args.high, x.pre)
 
 write-number-requires-3 : tie.Need-write-number-requires-3
-write-number-requires-3 c κs = let n = c.before.before.before in let x = entry (word (first n)) in omega (arith, behind-second n, whole-within x.args.low, whole-within x.args.high, x.pre)
+write-number-requires-3 c κs = let n = c.before.before.before in let x = entry (word (first n)) in omega (arith, behind-second n, whole_within x.args.low, whole_within x.args.high, x.pre)
 
 returns : tie.Need-returns
 returns c =
@@ -49,9 +49,9 @@ returns c =
     let first = first second in
     let word = word first in
     let room = (entry word).pre in
-    written-more (omega (arith, behind-second second, room))
-    (written-more (omega (arith, behind-first first, room))
-    (written-more (omega (arith, behind-word word, room)) word.write-text.ensures first.write-number.ensures)
+    written_more (omega (arith, behind-second second, room))
+    (written_more (omega (arith, behind-first first, room))
+    (written_more (omega (arith, behind-word word, room)) word.write-text.ensures first.write-number.ensures)
     second.write-number2.ensures)
     third.write-number3.ensures
 

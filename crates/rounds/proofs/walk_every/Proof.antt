@@ -7,32 +7,32 @@ use lib.ListN.{length}
 use borrow.Author.Rules.{rules}
 use Rattle.meaning.specs.Records.{table}
 use Rattle.records.specs.Rows.{words_of}
-use Rattle.meaning.specs.Blocks.{Time, orWhole}
+use Rattle.meaning.specs.Blocks.{Time, or_whole}
 use Rattle.meaning.specs.Results.{Result}
-use Rattle.meaning.specs.Run.{Done, Only, workedUnder}
+use Rattle.meaning.specs.Run.{Done, Only, worked_under}
 use Rattle.blocks.specs.declared.Ratios.{Ratios}
-use Rattle.blocks.specs.Meant.{ratiosIs}
-use Rattle.passes.specs.Apart.{ratioCount}
-use Rattle.passes.specs.Walks.{count-some}
+use Rattle.blocks.specs.Meant.{ratios_is}
+use Rattle.passes.specs.Apart.{ratio_count}
+use Rattle.passes.specs.Walks.{count_some}
 use Rattle.turns.specs.declared.Worked.{Worked}
 use Rattle.rounds.specs.declared.Wanted.{Wanted}
-use Rattle.rounds.specs.Rounds.{Rounds, counted-nine}
-use Rattle.rounds.specs.Every.{every-is}
+use Rattle.rounds.specs.Rounds.{Rounds, counted_nine}
+use Rattle.rounds.specs.Every.{every_is}
 use Rattle.rounds.proofs.walk_every.Statement.{statement}
 use Rattle.rounds.proofs.walk_every.Tie as tie
 
 -- What holds between two rounds, with the lengths as they were lent.
 record Goes (deck : List ℕ) (wanted : Wanted) (work₀ ordinates₀ records₀ : List ℕ) (ratios : Ratios) (count : ℕ) (work ordinates records cards : List ℕ) (found : Worked) (place : ℕ) : Type 0 where
   rounds : Rounds deck wanted (length ordinates₀) (length records₀) place found ordinates records
-  counted : count ≡ ratioCount deck
-  many : length (orWhole (ratiosIs ratios)) ≡ ratioCount deck
+  counted : count ≡ ratio_count deck
+  many : length (or_whole (ratios_is ratios)) ≡ ratio_count deck
   few : ratios.count ≤ 9
   nine : count ≤ 9
-  listed : (τ : Time) (rs : List Result) → workedUnder (Only 0) deck ≡ Done τ (rs ∷ []) → τ.listed ≡ ratiosIs ratios
+  listed : (τ : Time) (rs : List Result) → worked_under (Only 0) deck ≡ Done τ (rs ∷ []) → τ.listed ≡ ratios_is ratios
   up : place ≤ count
-  work-long : length work ≡ length work₀
-  ordinates-long : length ordinates ≡ length ordinates₀
-  records-long : length records ≡ length records₀
+  work_long : length work ≡ length work₀
+  ordinates_long : length ordinates ≡ length ordinates₀
+  records_long : length records ≡ length records₀
   cards-long : length cards ≡ words_of table
 
 abbrev invariant-loop : tie.invariant-loop
@@ -66,7 +66,7 @@ loop-holds c =
     let w = c.before.before.before.before.before.before.before.before.before.before in
     let b = w.walk_first.ensures in
     let n = c.before.count_of.ensures in
-    let nine = counted-nine w.walk_first.result.ratios b.few-ratios in
+    let nine = counted_nine w.walk_first.result.ratios b.few-ratios in
     record {
       rounds = rw (ordinates-kept w, records-kept w) b.rounds;
       counted = n ∙ b.ratios;
@@ -74,10 +74,10 @@ loop-holds c =
       few = b.few-ratios;
       nine = omega (arith, n, nine);
       listed = b.listed;
-      up = omega (arith, n, b.ratios, count-some (entry w).args.deck.now);
-      work-long = refl;
-      ordinates-long = refl;
-      records-long = refl;
+      up = omega (arith, n, b.ratios, count_some (entry w).args.deck.now);
+      work_long = refl;
+      ordinates_long = refl;
+      records_long = refl;
       cards-long = w.walk_first.auto.1.1.1.1.1.0;
     }
 
@@ -120,9 +120,9 @@ loop-again c =
       nine = v.nine;
       listed = v.listed;
       up = omega arith;
-      work-long = w.auto.1.1.1.1.0 ∙ v.work-long;
-      ordinates-long = w.auto.1.1.1.1.1.0 ∙ v.ordinates-long;
-      records-long = w.auto.1.1.1.1.1.1.0 ∙ v.records-long;
+      work_long = w.auto.1.1.1.1.0 ∙ v.work-long;
+      ordinates_long = w.auto.1.1.1.1.1.0 ∙ v.ordinates-long;
+      records_long = w.auto.1.1.1.1.1.1.0 ∙ v.records-long;
       cards-long = w.auto.1.1.1.1.1.1.1.0 ∙ v.cards-long;
     }
 
@@ -131,7 +131,7 @@ returns c =
     let l = c.before.loop in
     let v = l.invariant in
     let b = c.before.before.before.before.before.before.before.before.before.before.before.before in
-    every-is (entry b).args.deck.now (entry b).args.wanted (length (entry b).args.ordinates.now) (length (entry b).args.records.now) _ l.ordinates l.records l.place
+    every_is (entry b).args.deck.now (entry b).args.wanted (length (entry b).args.ordinates.now) (length (entry b).args.records.now) _ l.ordinates l.records l.place
     (rw (ordinates-kept b, records-kept b) at v.rounds) (omega (arith, v.counted)) v.many v.few v.listed
 
 pub walk-every-spec : {M : Type 1} → statement M

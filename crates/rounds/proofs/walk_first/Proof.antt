@@ -6,9 +6,9 @@ use mathlib.Core.List.{List}
 use native.Mathlib.Omega.{arith}
 use lib.ListN.{length}
 use borrow.Author.Rules.{rules}
-use Rattle.sequences.specs.Parts.{length_part, put-tail}
-use Rattle.lending.specs.Lent.{ordinates-within, zeros-part, zeros-drop}
-use Rattle.rounds.specs.Rounds.{round-first}
+use Rattle.sequences.specs.Parts.{length_part, put_tail}
+use Rattle.lending.specs.Lent.{ordinates_within, zeros-part, zeros-drop}
+use Rattle.rounds.specs.Rounds.{round_first}
 use Rattle.rounds.proofs.walk_first.Statement.{statement}
 use Rattle.rounds.proofs.walk_first.Tie as tie
 
@@ -19,7 +19,7 @@ entry c = c.before.before.before.before.before.before
 begins-within : (c : tie.After-ordinates-from) → c.ordinates-from.result ≤ length (entry c).args.ordinates.now
 begins-within c =
     let x = (entry c).args in
-    subst (λ (a : ℕ). a ≤ length x.ordinates.now) (sym c.ordinates-from.ensures) (ordinates-within false x.wanted.ratio 0 (length x.ordinates.now))
+    subst (λ (a : ℕ). a ≤ length x.ordinates.now) (sym c.ordinates-from.ensures) (ordinates_within false x.wanted.ratio 0 (length x.ordinates.now))
 
 mul-walk-deck : tie.Need-overflow-mul-walk-deck
 mul-walk-deck c = let h = begins-within c.before in search rules
@@ -46,8 +46,8 @@ returns c =
     let n = length x.ordinates.now in
     let fits : a + (n - a) ≤ n = omega (arith, begins-within f) in
     let long = length_part a (n - a) x.ordinates.now fits in
-    round-first x.deck.now x.wanted n (length x.records.now) w.walk-deck.result x.ordinates.now w.walk-deck.new.1.1.1.1.0 _ _ refl
-    a f.ordinates-from.ensures (w.walk-deck.auto.1.1.1.1.0 ∙ long) (put-tail a x.ordinates.now _) (rw long at w.walk-deck.ensures)
+    round_first x.deck.now x.wanted n (length x.records.now) w.walk-deck.result x.ordinates.now w.walk-deck.new.1.1.1.1.0 _ _ refl
+    a f.ordinates-from.ensures (w.walk-deck.auto.1.1.1.1.0 ∙ long) (put_tail a x.ordinates.now _) (rw long at w.walk-deck.ensures)
 
 pub walk-first-spec : {M : Type 1} → statement M
 walk-first-spec =

@@ -5,10 +5,10 @@ use mathlib.Core.List.{List, ◌++◌}
 use native.Mathlib.Omega.{arith}
 use lib.ListN.{length, take, drop, replicate}
 use borrow.Author.Rules.{rules}
-use Rattle.sequences.specs.Parts.{part, length_part, put-tail}
-use Rattle.blocks.specs.Meant.{ratiosIs}
-use Rattle.lending.specs.Lent.{ordinatesFrom, recordsFrom, ordinates-within, records-within, zeros-part, cleared-drop, cleared-take}
-use Rattle.rounds.specs.Rounds.{records-zeros, round-more}
+use Rattle.sequences.specs.Parts.{part, length_part, put_tail}
+use Rattle.blocks.specs.Meant.{ratios_is}
+use Rattle.lending.specs.Lent.{ordinates_from, records_from, ordinates_within, records_within, zeros-part, cleared_drop, cleared_take}
+use Rattle.rounds.specs.Rounds.{records-zeros, round_more}
 use Rattle.rounds.proofs.walk_next.Statement.{statement}
 use Rattle.rounds.proofs.walk_next.Tie as tie
 
@@ -19,12 +19,12 @@ entry c = c.before.before.before.before.before.before
 ordinates-begin : (c : tie.After-ordinates-from) → c.ordinates-from.result ≤ length (entry c).args.ordinates.now
 ordinates-begin c =
     let x = (entry c).args in
-    subst (λ (a : ℕ). a ≤ length x.ordinates.now) (sym c.ordinates-from.ensures) (ordinates-within x.found.refused x.wanted.ratio x.place (length x.ordinates.now))
+    subst (λ (a : ℕ). a ≤ length x.ordinates.now) (sym c.ordinates-from.ensures) (ordinates_within x.found.refused x.wanted.ratio x.place (length x.ordinates.now))
 
 records-begin : (c : tie.After-records-from) → c.records-from.result ≤ length (entry c.before).args.records.now
 records-begin c =
     let x = (entry c.before).args in
-    subst (λ (b : ℕ). b ≤ length x.records.now) (sym c.records-from.ensures) (records-within x.found.refused x.found.blocks x.place (length x.records.now))
+    subst (λ (b : ℕ). b ≤ length x.records.now) (sym c.records-from.ensures) (records_within x.found.refused x.found.blocks x.place (length x.records.now))
 
 clear-from-requires : tie.Need-clear-from-requires
 clear-from-requires c κs = ordinates-begin c.before.before
@@ -76,7 +76,7 @@ walk-deck-requires c κs =
     let x = (entry (from p)).args in
     let a = (from p).ordinates-from.result in
     let b = (behind p).records-from.result in
-    let os = cleared-drop a x.ordinates.now (cleared p) (ordinates-begin (from p)) (cleared-long p) p.clear-from.ensures in
+    let os = cleared_drop a x.ordinates.now (cleared p) (ordinates-begin (from p)) (cleared-long p) p.clear-from.ensures in
     ((entry (from p)).requires.0, ((zeros-part a (cleared p) os, zeros-part b x.records.now (records-lent p)), (entry (from p)).requires.1.0.1))
 
 returns : tie.Need-returns
@@ -96,10 +96,10 @@ returns c =
     let walked = rw (long, long') at w.walk-deck.ensures in
     let lent = w.walk-deck.new.1.1.1.1.0 in
     rw c.sooner.ensures
-    (round-more x.deck.now x.wanted n m x.place x.found w.walk-deck.result.worked x.ordinates.now lent _ x.records.now _ _ refl refl s.pre.1.1 s.pre.1.0.0
-    a b (from p).ordinates-from.ensures (behind p).records-from.ensures (ratiosIs w.walk-deck.result.ratios) walked.worked (w.walk-deck.auto.1.1.1.1.0 ∙ long)
-    (put-tail a (cleared p) lent ∙ ap (λ (l : List ℕ). l ++ lent) (cleared-take a x.ordinates.now (cleared p) (ordinates-begin (from p)) p.clear-from.ensures))
-    (put-tail b x.records.now _))
+    (round_more x.deck.now x.wanted n m x.place x.found w.walk-deck.result.worked x.ordinates.now lent _ x.records.now _ _ refl refl s.pre.1.1 s.pre.1.0.0
+    a b (from p).ordinates-from.ensures (behind p).records-from.ensures (ratios_is w.walk-deck.result.ratios) walked.worked (w.walk-deck.auto.1.1.1.1.0 ∙ long)
+    (put_tail a (cleared p) lent ∙ ap (λ (l : List ℕ). l ++ lent) (cleared_take a x.ordinates.now (cleared p) (ordinates-begin (from p)) p.clear-from.ensures))
+    (put_tail b x.records.now _))
 
 pub walk-next-spec : {M : Type 1} → statement M
 walk-next-spec =

@@ -3,7 +3,7 @@ use mathlib.Core.Path.{sym, ap, ◌∙◌}
 use Prim.Native.Nat.{ℕ}
 use borrow.Author.Rules.{rules}
 use lib.ListN.{length, replicate}
-use Rattle.runoff.specs.Listed.{length-listed, listed-up}
+use Rattle.runoff.specs.Listed.{length-listed, listed_up}
 use Rattle.runoff.proofs.list_excess.Statement.{statement}
 use Rattle.runoff.proofs.list_excess.Tie as tie
 
@@ -14,7 +14,7 @@ take-out-requires c κs =
     let n = length s.args.q.now in
     let excess = c.before.before.before.before.storm-excess in (
       s.requires.0.0 ∙ sym (length-listed rains excess.new.0 s.args.storm n excess.ensures),
-      listed-up rains excess.new.0 s.args.storm n excess.ensures s.requires.1.1 s.requires.0.2 s.requires.1.0,
+      listed_up rains excess.new.0 s.args.storm n excess.ensures s.requires.1.1 s.requires.0.2 s.requires.1.0,
     )
 
 returns : tie.Need-returns

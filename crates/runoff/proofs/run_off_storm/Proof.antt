@@ -7,10 +7,10 @@ use borrow.Author.Rules.{rules}
 use lib.ListN.{length, take, drop, length-take, length-append, length-drop, length-replicate, replicate}
 use lib.Seq.{length-take-le, take_at}
 use Rattle.sequences.specs.Parts.{put}
-use Rattle.meaning.specs.Water.{rainOf}
+use Rattle.meaning.specs.Water.{rain_of}
 use Rattle.excess.specs.declared.Storm.{Storm}
-use Rattle.excess.specs.Storms.{stormExcess}
-use Rattle.runoff.specs.Listed.{length-listed, listed-up, listed-runoff, zeros-through}
+use Rattle.excess.specs.Storms.{storm_excess}
+use Rattle.runoff.specs.Listed.{length-listed, listed_up, listed_runoff, zeros_through}
 use Rattle.runoff.proofs.run_off_storm.Statement.{statement}
 use Rattle.runoff.proofs.run_off_storm.Tie as tie
 
@@ -18,8 +18,8 @@ list-excess-requires : tie.Need-list-excess-requires
 list-excess-requires c κs =
     let s = c.before.before.before.before.before.before.before in
     let least = c.before.before.smaller.ensures in
-    let few = s.requires.0.intervalsUp in
-    ((simp length-take (omega (arith, least, few, s.requires.1)), simp length-take (omega (arith, few)), s.requires.0.ratioUp), (s.requires.0.rainsUp, s.requires.0.totalUp))
+    let few = s.requires.0.intervals_up in
+    ((simp length-take (omega (arith, least, few, s.requires.1)), simp length-take (omega (arith, few)), s.requires.0.ratio_up), (s.requires.0.rains_up, s.requires.0.total_up))
 
 -- WHERE THE SHEET BEGINS: the excess stands in words of its own, and there are no ordinates yet
 abbrev Begun : Type 0
@@ -70,8 +70,8 @@ module _ (c : Begun) where
   within : listed ≤ length q
   within = omega (arith, least)
 
-  made : excess ≡ stormExcess storm (rainOf rains listed)
-  made = (listed_at c).list-excess.ensures.0 ∙ ap (λ (n : ℕ). stormExcess storm (rainOf rains n)) (length-take-le listed q within)
+  made : excess ≡ storm_excess storm (rain_of rains listed)
+  made = (listed_at c).list-excess.ensures.0 ∙ ap (λ (n : ℕ). storm_excess storm (rain_of rains n)) (length-take-le listed q within)
 
   taken : take listed (excess ++ drop listed words) ≡ excess
   taken = take_at excess (drop listed words) listed (length-listed rains excess storm listed made)
@@ -83,7 +83,7 @@ module _ (c : Begun) where
 
   empty : put listed (length (front ++ drop listed q) - listed) (front ++ drop listed q) back ≡ replicate (length q) 0
   empty =
-      zeros-through q front back listed within (listed_at c).list-excess.ensures.1 (zeroed c).zero-words.ensures
+      zeros_through q front back listed within (listed_at c).list-excess.ensures.1 (zeroed c).zero-words.ensures
       ∙ ap (λ (n : ℕ). replicate n 0) long
 
 slice-aggregate-run-off : tie.Need-slice-aggregate-run-off
@@ -94,9 +94,9 @@ run-off-requires c κs =
     let s = entry c in
     let same : length (put (listed c) (length (front c ++ drop (listed c) (q c)) - listed c) (front c ++ drop (listed c) (q c)) (back c)) ≡ length (q c) =
     ap length (empty c) ∙ length-replicate (length (q c)) 0 in
-    let up = listed-up (rains c) (excess c) (storm c) (listed c) (made c) s.pre.0.totalUp s.pre.0.ratioUp s.pre.0.rainsUp in (
-      (omega (arith, sym (slice-aggregate-run-off c), within c, same), omega (arith, same, s.pre.0.intervalsUp)),
-      ((s.pre.0.unitsUp, rw (taken c) up), empty c ∙ ap (λ (n : ℕ). replicate n 0) (sym same)),
+    let up = listed_up (rains c) (excess c) (storm c) (listed c) (made c) s.pre.0.total_up s.pre.0.ratio_up s.pre.0.rains_up in (
+      (omega (arith, sym (slice-aggregate-run-off c), within c, same), omega (arith, same, s.pre.0.intervals_up)),
+      ((s.pre.0.units_up, rw (taken c) up), empty c ∙ ap (λ (n : ℕ). replicate n 0) (sym same)),
     )
 
 returns : tie.Need-returns
@@ -105,7 +105,7 @@ returns c =
     let same = ap length (empty begun) ∙ length-replicate (length (q begun)) 0 in
     c.before.before.run-off.ensures
     ∙ rw (taken begun, same)
-    (listed-runoff (rains begun) (excess begun) (storm begun) (listed begun) (made begun) (length (q begun)) (least begun) (entry begun).args.units.now)
+    (listed_runoff (rains begun) (excess begun) (storm begun) (listed begun) (made begun) (length (q begun)) (least begun) (entry begun).args.units.now)
 
 pub run-off-storm-spec : {M : Type 1} → statement M
 run-off-storm-spec =

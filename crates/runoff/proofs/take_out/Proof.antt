@@ -3,8 +3,8 @@ use Prim.Native.Nat.{ℕ, ◌-◌, ◌≤◌}
 use mathlib.Core.Path.{refl, sym}
 use native.Mathlib.Omega.{arith}
 use lib.ListN.{length, get_or, replicate, length-replicate}
-use Rattle.sequences.specs.Rewriting.{Rewritten, rewritten-none, rewritten-more, rewritten-all}
-use Rattle.sequences.specs.Zeros.{getD-alike}
+use Rattle.sequences.specs.Rewriting.{Rewritten, rewritten_none, rewritten_more, rewritten_all}
+use Rattle.sequences.specs.Zeros.{get_or_alike}
 use Rattle.runoff.proofs.take_out.Statement.{statement}
 use Rattle.runoff.proofs.take_out.Tie as tie
 
@@ -23,7 +23,7 @@ cast-excess c =
 loop-again : tie.Need-loop-preserved invariant-loop decreases-loop
 loop-again c =
     let l = c.before.before.loop in
-    (rewritten-more _ _ _ _ _ l.invariant.0 (omega arith) (l.invariant.1.same l.k (omega arith)), rewritten-more _ _ _ _ _ l.invariant.1 (omega arith) refl, omega arith)
+    (rewritten_more _ _ _ _ _ l.invariant.0 (omega arith) (l.invariant.1.same l.k (omega arith)), rewritten_more _ _ _ _ _ l.invariant.1 (omega arith) refl, omega arith)
 
 returns : tie.Need-returns invariant-loop decreases-loop
 returns c =
@@ -31,8 +31,8 @@ returns c =
     let l = c.before.loop in
     let q₀ = s.args.q.now in
     let excess₀ = s.args.excess.now in (
-      rewritten-all (λ (i : ℕ). get_or q₀ i 0) excess₀ l.excess q₀ l.k l.invariant.0 (sym s.requires.0) (λ (i : ℕ) before below. refl) (λ (i : ℕ) from below. absurd (omega arith)),
-      rewritten-all (λ (i : ℕ). 0) q₀ l.q (replicate (length q₀) 0) l.k l.invariant.1 (length-replicate (length q₀) 0) (λ (i : ℕ) before below. sym (getD-alike (length q₀) i 0))
+      rewritten_all (λ (i : ℕ). get_or q₀ i 0) excess₀ l.excess q₀ l.k l.invariant.0 (sym s.requires.0) (λ (i : ℕ) before below. refl) (λ (i : ℕ) from below. absurd (omega arith)),
+      rewritten_all (λ (i : ℕ). 0) q₀ l.q (replicate (length q₀) 0) l.k l.invariant.1 (length-replicate (length q₀) 0) (λ (i : ℕ) before below. sym (get_or_alike (length q₀) i 0))
           (λ (i : ℕ) from below. absurd (omega arith)),
     )
 
@@ -42,7 +42,7 @@ take-out-spec =
     (tie.spec
     invariant-loop
     decreases-loop
-    (λ c. (rewritten-none _ _ _ (omega arith), rewritten-none _ _ _ (omega arith), omega arith))
+    (λ c. (rewritten_none _ _ _ (omega arith), rewritten_none _ _ _ (omega arith), omega arith))
     (λ c. omega arith)
     (λ c. omega arith)
     cast-excess

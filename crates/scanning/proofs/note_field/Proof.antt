@@ -1,8 +1,8 @@
 -- A fault leaves all as it was; else what is kept is what the definition notes.
 use mathlib.Core.Path.{refl, sym}
 use mathlib.Core.Bool.{true≢false, false≢true}
-use Rattle.records.specs.Rows.{rulesBy}
-use Rattle.scanning.specs.Scans.{noted-by}
+use Rattle.records.specs.Rows.{rules_by}
+use Rattle.scanning.specs.Scans.{noted_by}
 use borrow.Author.Rules.{rules}
 use Rattle.scanning.proofs.note_field.Statement.{statement}
 use Rattle.scanning.proofs.note_field.Tie as tie
@@ -15,7 +15,7 @@ returns-2 c =
     let x = c.before.before.before.before.before.before.before.before.before.before.before.args in
     let e = rw c.before.before.before.before.before.before.v.given.1 at c.before.before.before.before.before.before.before.before.field_at.ensures in
     let done =
-    noted-by (rulesBy x.item) x.k x.f.now x.values.now x.scan c.before.before.before.keep.new.0 c.note.result _ _
+    noted_by (rules_by x.item) x.k x.f.now x.values.now x.scan c.before.before.before.keep.new.0 c.note.result _ _
     c.before.before.before.keep.ensures
     c.note.ensures.0
     c.note.ensures.1

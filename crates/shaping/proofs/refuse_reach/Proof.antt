@@ -3,16 +3,16 @@ use mathlib.Core.Path.{◌∙◌}
 use mathlib.Core.List.{[]}
 use native.Mathlib.Omega.{arith}
 use borrow.Author.Rules.{rules}
-use Rattle.blocks.specs.Meant.{timeIs}
+use Rattle.blocks.specs.Meant.{time_is}
 use Rattle.blocks.specs.Cards.{block_of}
-use Rattle.shaping.specs.Limits.{reach-small}
+use Rattle.shaping.specs.Limits.{reach_small}
 use Rattle.shaping.proofs.refuse_reach.Statement.{statement}
 use Rattle.shaping.proofs.refuse_reach.Tie as tie
 
 is-unroutable-requires : tie.Need-is-unroutable-requires
 is-unroutable-requires c κs =
     let s = c.before.before in
-    let small = reach-small (timeIs s.args.time) (block_of [] s.args.cards.now) s.requires.time s.requires.cards in
+    let small = reach_small (time_is s.args.time) (block_of [] s.args.cards.now) s.requires.time s.requires.cards in
     omega (arith, small, c.reach_of.ensures [])
 
 returns : tie.Need-returns

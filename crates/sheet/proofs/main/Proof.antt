@@ -2,12 +2,12 @@
 use mathlib.Core.Path.{◌≡◌}
 use borrow.Author.Rules.{rules}
 use lib.ListN.{length}
-use Rattle.sheeting.specs.Sizes.{sheetSize}
+use Rattle.sheeting.specs.Sizes.{sheet_size}
 use Rattle.sheet.proofs.main.Statement.{statement}
 use Rattle.sheet.proofs.main.Tie as tie
 
 abbrev invariant-loop : tie.invariant-loop
-invariant-loop deck₀ out₀ turns₀ deck out turns = (length deck ≡ 60_001) × (length out ≡ sheetSize)
+invariant-loop deck₀ out₀ turns₀ deck out turns = (length deck ≡ 60_001) × (length out ≡ sheet_size)
 
 abbrev decreases-loop : tie.decreases-loop
 decreases-loop deck₀ out₀ turns₀ deck out turns = turns

@@ -8,13 +8,13 @@ use lib.ListN.{get_or}
 use Rattle.meaning.specs.Lines.{lines_of}
 use Rattle.meaning.specs.Fields.{Fixed}
 use Rattle.meaning.specs.Run.{BeforeTime}
-use Rattle.meaning.specs.Sheet.{sheetText}
+use Rattle.meaning.specs.Sheet.{sheet_text}
 use Rattle.blocks.specs.declared.Time.{Time}
-use Rattle.blocks.specs.Meant.{ratiosIs, timeIs, nameIs}
+use Rattle.blocks.specs.Meant.{ratios_is, time_is, name_is}
 use Rattle.blocks.specs.Cards.{block_of}
 use Rattle.text.specs.Written.{Written, written_none}
 use Rattle.finding.specs.Place.{Place, block_at}
-use Rattle.sheeting.specs.Texts.{Shown, few-listed, shown-there, nothing-there}
+use Rattle.sheeting.specs.Texts.{Shown, few_listed, shown_there, nothing_there}
 use Rattle.sheeting.proofs.sheet_block.Statement.{statement}
 use Rattle.sheeting.proofs.sheet_block.Tie as tie
 
@@ -28,7 +28,7 @@ place c = block_at (lines_of c.before.before.before.before.args.deck.now) (Befor
 ratio-at-requires : tie.Need-ratio-at-requires
 ratio-at-requires c κs =
     let found = c.before.before.before.before.before.before in
-    few-listed found.find-block.result found.find-block.new.1.1.0 (place found) found.find-block.ensures c.before.before.if1.true
+    few_listed found.find-block.result found.find-block.new.1.1.0 (place found) found.find-block.ensures c.before.before.if1.true
 
 -- what is shown of it, under the ratio that was looked up
 shown : (c : tie.After-under) → let f = c.before.before.before.before.before.before.before.before.before in Shown (place f) f.find-block.result f.find-block.new.1.1.0 (f.before.before.before.before.args.ratio - 1) c.before.before.ratio-at.result
@@ -36,8 +36,8 @@ shown c =
     let f = c.before.before.before.before.before.before.before.before.before in
     let own : c.before.before.before.before2.result ≡ f.before.before.before.before.args.ratio - 1 = omega (arith, c.before.before.before.before2.ensures) in
     let x = f.find-block.result in
-    shown-there x f.find-block.new.1.1.0 (place f) f.find-block.ensures c.before.before.before.before.before.if1.true _ _
-    (c.before.before.ratio-at.ensures ∙ ap (λ (k : ℕ). get_or (ratiosIs x.time.ratios) k 100) own)
+    shown_there x f.find-block.new.1.1.0 (place f) f.find-block.ensures c.before.before.before.before.before.if1.true _ _
+    (c.before.before.ratio-at.ensures ∙ ap (λ (k : ℕ). get_or (ratios_is x.time.ratios) k 100) own)
 
 write-sheet-requires : tie.Need-write-sheet-requires
 write-sheet-requires c κs =
@@ -51,13 +51,13 @@ returns c =
     let sheet = shown c.before.before.before.before in
     let written = c.before.before.write-sheet in
     let found = c.before.before.before.before.before.before.before.before.before.before.before.before.before.find-block in
-    let text = ap (λ (t : Time). sheetText (timeIs t) (block_of (nameIs found.result.name) found.new.1.1.0)) under.ensures ∙ sheet.text in
+    let text = ap (λ (t : Time). sheet_text (time_is t) (block_of (name_is found.result.name) found.new.1.1.0)) under.ensures ∙ sheet.text in
     subst (λ (t : List ℕ). Written c.before.before.before.before.before.before.before.before.before.before.before.before.before.before.before.before.before.args.out.now 0 t written.new.0 written.result) text written.ensures
 
 returns-2 : tie.Need-returns-2
 returns-2 c =
     let found = c.before.before.before.before in
-    let none = nothing-there found.find-block.result found.find-block.new.1.1.0 (place found) found.find-block.ensures c.if1.false (c.before.before.before.before.before.before.before.before.args.ratio - 1) in
+    let none = nothing_there found.find-block.result found.find-block.new.1.1.0 (place found) found.find-block.ensures c.if1.false (c.before.before.before.before.before.before.before.before.args.ratio - 1) in
     rw none (written_none c.before.before.before.before.before.before.before.before.args.out.now 0)
 
 pub sheet-block-spec : {M : Type 1} → statement M

@@ -5,7 +5,7 @@ use mathlib.Core.List.{List}
 use native.Mathlib.Omega.{arith}
 use borrow.Author.Rules.{rules}
 use Rattle.text.specs.Written.{Written}
-use Rattle.text.specs.Counted.{written-counted}
+use Rattle.text.specs.Counted.{written_counted}
 use Rattle.sheeting.specs.Deck.{sheet-accepted, sheet-refused}
 use Rattle.sheeting.proofs.sheet_deck.Statement.{statement}
 use Rattle.sheeting.proofs.sheet_deck.Tie as tie
@@ -22,7 +22,7 @@ returns c =
     let sheet =
     sheet-accepted x.deck.now x.named x.ratio ran.run.result ran.run.ensures (omega arith) (omega arith) (omega arith) c.before.before.before.before.before.before.before.answer.given.1
     _ _ c.before.before.before.before.before.number_of_lem.ensures c.before.before.before.before.number-of2.ensures in
-    (subst (λ (t : List ℕ). Written x.out.now 0 t written.new.1.1.1.0 written.result) sheet written.ensures, written-counted written.ensures)
+    (subst (λ (t : List ℕ). Written x.out.now 0 t written.new.1.1.1.0 written.result) sheet written.ensures, written_counted written.ensures)
 
 returns-2 : tie.Need-returns-2
 returns-2 c =
@@ -30,7 +30,7 @@ returns-2 c =
     let x = c.before.before.before.before.before.before.before.before.before.before.before.before.before.before.before.before.args in
     let written = c.before.before.write-refusal in
     let sheet = sheet-refused x.deck.now x.named x.ratio ran.run.result ran.run.ensures (omega arith) (omega arith) (omega arith) c.before.before.before.before.before.answer2.given.1 in
-    (subst (λ (t : List ℕ). Written x.out.now 0 t written.new.0 written.result) sheet written.ensures, written-counted written.ensures)
+    (subst (λ (t : List ℕ). Written x.out.now 0 t written.new.0 written.result) sheet written.ensures, written_counted written.ensures)
 
 pub sheet-deck-spec : {M : Type 1} → statement M
 sheet-deck-spec =

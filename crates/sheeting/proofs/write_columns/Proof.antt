@@ -8,24 +8,24 @@ use lib.ListN.{length}
 use lib.Seq.{length-take-le}
 use Rattle.meaning.specs.Records.{UI}
 use Rattle.meaning.specs.Blocks as blocks
-use Rattle.meaning.specs.Blocks.{Block, rainValues, unitOrdinates}
-use Rattle.blocks.specs.Meant.{timeIs, nameIs}
+use Rattle.meaning.specs.Blocks.{Block, rain_values, unit_ordinates}
+use Rattle.blocks.specs.Meant.{time_is, name_is}
 use Rattle.blocks.specs.Cards.{block_of}
-use Rattle.blocks.specs.Values.{values-few}
+use Rattle.blocks.specs.Values.{values_few}
 use Rattle.shaping.specs.Limits.{Read}
 use Rattle.runoff.specs.Storm.{StormWithin}
-use Rattle.stack.specs.Kinds.{blockStorm}
+use Rattle.stack.specs.Kinds.{block_storm}
 use Rattle.making.specs.Kinds.{storm-read}
 use Rattle.text.specs.Written.{Written}
 use Rattle.sheets.specs.Tables.{ruled}
-use Rattle.sheeting.specs.Texts.{blockText}
-use Rattle.sheeting.specs.Columns.{columns-ruled, columns-long, columns-text}
+use Rattle.sheeting.specs.Texts.{block_text}
+use Rattle.sheeting.specs.Columns.{columns-ruled, columns_long, columns-text}
 use Rattle.sheeting.proofs.write_columns.Statement.{statement}
 use Rattle.sheeting.proofs.write_columns.Tie as tie
 
 -- a block that was read lends its storm within its limits
-read-within : (τ : blocks.Time) (name cards : List ℕ) → Read τ cards → let b = block_of name cards in StormWithin (unitOrdinates b) (rainValues b) (blockStorm τ b) τ.ordinates
-read-within τ name cards read = storm-read τ (block_of name cards) read.time read.cards (values-few UI name cards (omega arith) read.words.long)
+read_within : (τ : blocks.Time) (name cards : List ℕ) → Read τ cards → let b = block_of name cards in StormWithin (unit_ordinates b) (rain_values b) (block_storm τ b) τ.ordinates
+read_within τ name cards read = storm-read τ (block_of name cards) read.time read.cards (values_few UI name cards (omega arith) read.words.long)
 
 -- a name has six bytes, of which its letters are the first
 short : (s : tie.Start) → s.args.name.letters ≤ length s.args.name.bytes
@@ -43,16 +43,16 @@ entry c = (filled c).before.before.before.before.before.before.before.before.bef
 
 module _ (c : Got) where
   abbrev τ : blocks.Time
-  τ = timeIs (entry c).args.time
+  τ = time_is (entry c).args.time
 
   abbrev name : List ℕ
-  name = nameIs (entry c).args.name
+  name = name_is (entry c).args.name
 
   abbrev block : Block
   block = block_of name (entry c).args.cards.now
 
-  within : StormWithin (unitOrdinates block) (rainValues block) (blockStorm τ block) τ.ordinates
-  within = read-within τ name (entry c).args.cards.now (entry c).requires.0
+  within : StormWithin (unit_ordinates block) (rain_values block) (block_storm τ block) τ.ordinates
+  within = read_within τ name (entry c).args.cards.now (entry c).requires.0
 
 array-share-prefix-bytes : tie.Need-array-share-prefix-bytes
 array-share-prefix-bytes c = short (entry c.before)
@@ -65,7 +65,7 @@ write-tables-requires c κs =
     let got = c.before.before.before.before.before.before in
     let pre = (entry got).requires in
     let columns = (filled got).fill-columns.ensures (name got) in
-    let long = columns-long (τ got) (block got) (within got) columns in
+    let long = columns_long (τ got) (block got) (within got) columns in
     let letters : length (name got) ≡ (entry got).args.name.letters = length-take-le _ _ (short (entry got)) in (
       rw (got.values.ensures (name got)) (columns-ruled (τ got) (block got) (within got) columns),
       (long.0, omega (arith, long.1, pre.0.time.few-ordinates), omega (arith, letters, pre.1.1.0), pre.1.1.1),
@@ -77,7 +77,7 @@ returns c =
     let fill = (filled got).fill-columns in
     let written = c.before.before.write-tables in
     let text =
-    ap (λ (us : List ℕ). blockText (τ got).ratio (name got) (ruled us fill.last.0 fill.last.1.0 fill.last.1.1.0) fill.last.1.1.1.0) (got.values.ensures (name got))
+    ap (λ (us : List ℕ). block_text (τ got).ratio (name got) (ruled us fill.last.0 fill.last.1.0 fill.last.1.1.0) fill.last.1.1.1.0) (got.values.ensures (name got))
     ∙ columns-text (τ got) (block got) (within got) (fill.ensures (name got)) in
     subst (λ (t : List ℕ). Written (entry got).args.out.now 0 t written.new.0 written.result) text written.ensures
 

@@ -6,12 +6,12 @@ use native.Mathlib.Omega.{arith}
 use borrow.Author.Rules.{rules}
 use lib.ListN.{length, take}
 use lib.Seq.{length-take-le}
-use Rattle.meaning.specs.Records.{mostOrdinates}
+use Rattle.meaning.specs.Records.{most_ordinates}
 use Rattle.sheeting.proofs.write_runoff.Statement.{statement}
 use Rattle.sheeting.proofs.write_runoff.Tie as tie
 
 -- a column is as long as its part of the words
-lent : (n : ℕ) (column : List ℕ) → length column ≡ 300 → n ≤ mostOrdinates → length (take n column) ≡ n
+lent : (n : ℕ) (column : List ℕ) → length column ≡ 300 → n ≤ most_ordinates → length (take n column) ≡ n
 lent n column long few = length-take-le n column (omega arith)
 
 write-columns-requires : tie.Need-write-columns-requires

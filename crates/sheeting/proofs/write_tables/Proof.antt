@@ -3,38 +3,38 @@ use Prim.Native.Nat.{◌+◌, ◌≤◌}
 use native.Mathlib.Omega.{arith}
 use borrow.Author.Rules.{rules}
 use lib.ListN.{length}
-use Rattle.meaning.specs.Records.{mostOrdinates}
-use Rattle.meaning.specs.Sheet.{Sheet, Measure, Units, Customary, titleLine, tableText}
-use Rattle.text.specs.Written.{written-more}
-use Rattle.sheets.specs.Sizes.{titleSize, tableSize}
+use Rattle.meaning.specs.Records.{most_ordinates}
+use Rattle.meaning.specs.Sheet.{Sheet, Measure, Units, Customary, title_line, table_text}
+use Rattle.text.specs.Written.{written_more}
+use Rattle.sheets.specs.Sizes.{title_size, table_size}
 use Rattle.sheets.specs.Tables.{ruled}
-use Rattle.sheets.specs.Room.{title-short, table-short, table-most}
+use Rattle.sheets.specs.Room.{title_short, table_short, table_most}
 use Rattle.sheeting.proofs.write_tables.Statement.{statement}
 use Rattle.sheeting.proofs.write_tables.Tie as tie
 
 -- A TITLE AND A TABLE of what was lent
 module _ (s : tie.Start) where
-  title-fits : (m : Measure) → length (titleLine m s.args.ratio s.args.name.now) ≤ titleSize 6
-  title-fits m = omega (arith, title-short m s.args.ratio s.args.name.now, s.requires.1.2)
+  title_fits : (m : Measure) → length (title_line m s.args.ratio s.args.name.now) ≤ title_size 6
+  title_fits m = omega (arith, title_short m s.args.ratio s.args.name.now, s.requires.1.2)
 
-  most : tableSize (length s.args.excesses.now) ≤ tableSize mostOrdinates
-  most = table-most (length s.args.excesses.now) s.pre.1.1
+  most : table_size (length s.args.excesses.now) ≤ table_size most_ordinates
+  most = table_most (length s.args.excesses.now) s.pre.1.1
 
   abbrev sheet : Sheet
   sheet = ruled s.args.units.now s.args.rains.now s.args.losses.now s.args.excesses.now
 
-  table_fits : (m : Measure) → length (tableText m sheet s.args.sums.now) ≤ tableSize mostOrdinates
-  table_fits m = omega (arith, table-short m sheet s.args.sums.now, most)
+  table_fits : (m : Measure) → length (table_text m sheet s.args.sums.now) ≤ table_size most_ordinates
+  table_fits m = omega (arith, table_short m sheet s.args.sums.now, most)
 
 -- THE PLACE BEHIND each of the first three
-behind-title : (c : tie.After-write-title) → c.write-title.result ≤ titleSize 6
-behind-title c = omega (arith, c.write-title.ensures.place, title-fits c.before.before.before.before.before.before.before.before.before Units)
+behind-title : (c : tie.After-write-title) → c.write-title.result ≤ title_size 6
+behind-title c = omega (arith, c.write-title.ensures.place, title_fits c.before.before.before.before.before.before.before.before.before Units)
 
-behind-table : (c : tie.After-write-table) → c.write-table.result ≤ titleSize 6 + tableSize mostOrdinates
+behind-table : (c : tie.After-write-table) → c.write-table.result ≤ title_size 6 + table_size most_ordinates
 behind-table c = omega (arith, c.write-table.ensures.place, behind-title c.before.before.before.before, table_fits c.before.before.before.before.before.before.before.before.before.before.before.before.before Units)
 
-behind-next : (c : tie.After-write-title2) → c.write-title2.result ≤ titleSize 6 + tableSize mostOrdinates + titleSize 6
-behind-next c = omega (arith, c.write-title2.ensures.place, behind-table c.before.before.before.before, title-fits c.before.before.before.before.before.before.before.before.before.before.before.before.before.before.before.before.before Customary)
+behind-next : (c : tie.After-write-title2) → c.write-title2.result ≤ title_size 6 + table_size most_ordinates + title_size 6
+behind-next c = omega (arith, c.write-title2.ensures.place, behind-table c.before.before.before.before, title_fits c.before.before.before.before.before.before.before.before.before.before.before.before.before.before.before.before.before Customary)
 
 write-table-requires : tie.Need-write-table-requires
 write-table-requires c κs =
@@ -55,9 +55,9 @@ returns c =
     let title = c.before.before.before.before.before.before.before.before.before.before.before.before.before.before in
     let table = c.before.before.before.before.before.before.before.before.before.before in
     let next = c.before.before.before.before.before.before in
-    written-more (omega (arith, behind-next next, room))
-    (written-more (omega (arith, behind-table table, room))
-    (written-more (omega (arith, behind-title title, room)) title.write-title.ensures table.write-table.ensures)
+    written_more (omega (arith, behind-next next, room))
+    (written_more (omega (arith, behind-table table, room))
+    (written_more (omega (arith, behind-title title, room)) title.write-title.ensures table.write-table.ensures)
     next.write-title2.ensures)
     c.before.before.write-table2.ensures
 

@@ -2,14 +2,14 @@
 use Prim.Native.Nat.{◌+◌, ◌*◌, ◌≤◌}
 use native.Mathlib.Omega.{arith}
 use lib.ListN.{length}
-use Rattle.text.specs.Digits.{whole-within}
-use Rattle.text.specs.Written.{written-more}
-use Rattle.cells.specs.Sizes.{cellSize, depthsSize}
-use Rattle.cells.specs.Cells.{measureIs}
-use Rattle.cells.specs.Room.{behind-depths}
+use Rattle.text.specs.Digits.{whole_within}
+use Rattle.text.specs.Written.{written_more}
+use Rattle.cells.specs.Sizes.{cell_size, depths_size}
+use Rattle.cells.specs.Cells.{measure_is}
+use Rattle.cells.specs.Room.{behind_depths}
 use Rattle.sheets.specs.Tables.{ruled}
 use Rattle.sheets.specs.Lines.{row_here}
-use Rattle.sheets.specs.Room.{behind-shares}
+use Rattle.sheets.specs.Room.{behind_shares}
 use borrow.Author.Rules.{rules}
 use Rattle.sheets.proofs.write_row.Statement.{statement}
 use Rattle.sheets.proofs.write_row.Tie as tie
@@ -25,18 +25,18 @@ abbrev depths : tie.After-write-shares → tie.After-write-depths
 depths c = c.before.before.before.before.before
 
 from-number : (c : tie.After-write-whole) → c.write-whole.result ≤ (entry c).args.at + 20
-from-number c = omega (arith, c.write-whole.ensures.place, whole-within ((entry c).args.k + 1))
+from-number c = omega (arith, c.write-whole.ensures.place, whole_within ((entry c).args.k + 1))
 
-from-depths : (c : tie.After-write-depths) → c.write-depths.result ≤ (entry (number c)).args.at + 20 + depthsSize
-from-depths c = omega (arith, behind-depths (measureIs (entry (number c)).args.measure) _ _ _ c.write-depths.ensures, from-number (number c))
+from-depths : (c : tie.After-write-depths) → c.write-depths.result ≤ (entry (number c)).args.at + 20 + depths_size
+from-depths c = omega (arith, behind_depths (measure_is (entry (number c)).args.measure) _ _ _ c.write-depths.ensures, from-number (number c))
 
-from-shares : (c : tie.After-write-shares) → let x = (entry (number (depths c))).args in c.write-shares.result ≤ x.at + 20 + depthsSize + cellSize * length x.excesses.now
+from-shares : (c : tie.After-write-shares) → let x = (entry (number (depths c))).args in c.write-shares.result ≤ x.at + 20 + depths_size + cell_size * length x.excesses.now
 from-shares c =
     let x = (entry (number (depths c))).args in
-    omega (arith, behind-shares (measureIs x.measure) x.units.now _ _ (length x.excesses.now) c.write-shares.ensures, from-depths (depths c))
+    omega (arith, behind_shares (measure_is x.measure) x.units.now _ _ (length x.excesses.now) c.write-shares.ensures, from-depths (depths c))
 
 write-whole-requires : tie.Need-write-whole-requires
-write-whole-requires c κs = omega (arith, whole-within (c.before.before.before.before.before.before.args.k + 1))
+write-whole-requires c κs = omega (arith, whole_within (c.before.before.before.before.before.before.args.k + 1))
 
 write-depths-requires : tie.Need-write-depths-requires
 write-depths-requires c κs =
@@ -65,12 +65,12 @@ returns c =
     let x = (entry n).args in
     let room = (entry n).pre.1.1 in
     let text =
-    written-more (omega (arith, from-shares h))
-    (written-more (omega (arith, from-depths d))
-    (written-more (omega (arith, from-number n)) n.write-whole.ensures d.write-depths.ensures)
+    written_more (omega (arith, from-shares h))
+    (written_more (omega (arith, from-depths d))
+    (written_more (omega (arith, from-number n)) n.write-whole.ensures d.write-depths.ensures)
     h.write-shares.ensures)
     end.write_byte.ensures in
-    row_here (measureIs x.measure) (ruled x.units.now x.rains.now x.losses.now x.excesses.now) x.k text
+    row_here (measure_is x.measure) (ruled x.units.now x.rains.now x.losses.now x.excesses.now) x.k text
     (omega arith)
     (omega arith)
     (omega arith)

@@ -3,18 +3,18 @@ use Prim.Native.Nat.{◌+◌, ◌-◌, ◌*◌, ◌≤◌}
 use mathlib.Core.Path.{◌≡◌, refl, ◌∙◌}
 use native.Mathlib.Omega.{arith}
 use lib.ListN.{length}
-use Rattle.meaning.specs.Sheet.{cellsFrom}
-use Rattle.text.specs.Written.{Written, written_none, written-more}
-use Rattle.cells.specs.Sizes.{cellSize}
-use Rattle.cells.specs.Cells.{measureIs, shareBy}
-use Rattle.sheets.specs.Lines.{cells-more}
-use Rattle.sheets.specs.Room.{shares-short}
+use Rattle.meaning.specs.Sheet.{cells_from}
+use Rattle.text.specs.Written.{Written, written_none, written_more}
+use Rattle.cells.specs.Sizes.{cell_size}
+use Rattle.cells.specs.Cells.{measure_is, share_by}
+use Rattle.sheets.specs.Lines.{cells_more}
+use Rattle.sheets.specs.Room.{shares_short}
 use Rattle.sheets.proofs.write_shares.Statement.{statement}
 use Rattle.sheets.proofs.write_shares.Tie as tie
 
 abbrev invariant-loop : tie.invariant-loop
 invariant-loop out₀ start measure units excess k n at₀ i₀ out at i =
-    (i ≤ n) × (length out ≡ length out₀) × Written out₀ start (cellsFrom (shareBy (measureIs measure) units excess k) 0 i) out at
+    (i ≤ n) × (length out ≡ length out₀) × Written out₀ start (cells_from (share_by (measure_is measure) units excess k) 0 i) out at
 
 abbrev decreases-loop : tie.decreases-loop
 decreases-loop out₀ start measure units excess k n at₀ i₀ out at i = n - i
@@ -26,10 +26,10 @@ Loop = tie.At-loop invariant-loop decreases-loop
 abbrev entry : Loop → tie.Start invariant-loop decreases-loop
 entry c = c.before.before.before
 
-reached : (c : Loop) → c.loop.at ≤ (entry c).args.start + cellSize * c.loop.i
+reached : (c : Loop) → c.loop.at ≤ (entry c).args.start + cell_size * c.loop.i
 reached c =
     let x = (entry c).args in
-    omega (arith, c.loop.invariant.2.place, shares-short (measureIs x.measure) x.units.now x.excess x.k c.loop.i)
+    omega (arith, c.loop.invariant.2.place, shares_short (measure_is x.measure) x.units.now x.excess x.k c.loop.i)
 
 loop-holds : tie.Need-loop-init invariant-loop decreases-loop
 loop-holds c = (omega arith, refl, written_none _ _)
@@ -47,8 +47,8 @@ loop-again c =
     let written = c.before.before.write-share in (
       omega arith,
       written.auto.0 ∙ l.invariant.1,
-      rw (cells-more (shareBy (measureIs x.measure) x.units.now x.excess x.k) l.i)
-          (written-more (omega (arith, reached t)) l.invariant.2 written.ensures),
+      rw (cells_more (share_by (measure_is x.measure) x.units.now x.excess x.k) l.i)
+          (written_more (omega (arith, reached t)) l.invariant.2 written.ensures),
     )
 
 same_length : tie.Need-same-length invariant-loop decreases-loop

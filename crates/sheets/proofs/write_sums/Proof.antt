@@ -4,21 +4,21 @@ use mathlib.Core.Path.{◌≡◌, refl, ◌∙◌}
 use mathlib.Core.List.{List}
 use native.Mathlib.Omega.{arith}
 use lib.ListN.{length, get_or}
-use Rattle.meaning.specs.Sheet.{Measure, cellsFrom, flowText, sumLine}
-use Rattle.text.specs.Written.{Written, written_none, written-more}
-use Rattle.cells.specs.Sizes.{cellSize}
-use Rattle.cells.specs.Cells.{measureIs}
-use Rattle.sheets.specs.Lines.{cells-more}
-use Rattle.sheets.specs.Room.{flows-short}
+use Rattle.meaning.specs.Sheet.{Measure, cells_from, flow_text, sum_line}
+use Rattle.text.specs.Written.{Written, written_none, written_more}
+use Rattle.cells.specs.Sizes.{cell_size}
+use Rattle.cells.specs.Cells.{measure_is}
+use Rattle.sheets.specs.Lines.{cells_more}
+use Rattle.sheets.specs.Room.{flows_short}
 use Rattle.sheets.proofs.write_sums.Statement.{statement}
 use Rattle.sheets.proofs.write_sums.Tie as tie
 
 abbrev flows : Measure → (sums : List ℕ) → ℕ → List ℕ
-flows m sums n = cellsFrom (λ (i : ℕ). flowText m (get_or sums i 0)) 0 n
+flows m sums n = cells_from (λ (i : ℕ). flow_text m (get_or sums i 0)) 0 n
 
 abbrev invariant-loop : tie.invariant-loop
 invariant-loop out₀ start measure sums at₀ column₀ out at column =
-    (column ≤ length sums) × (length out ≡ length out₀) × Written out₀ at₀ (flows (measureIs measure) sums column) out at
+    (column ≤ length sums) × (length out ≡ length out₀) × Written out₀ at₀ (flows (measure_is measure) sums column) out at
 
 abbrev decreases-loop : tie.decreases-loop
 decreases-loop out₀ start measure sums at₀ column₀ out at column = length sums - column
@@ -33,10 +33,10 @@ word c = c.before.before.before
 abbrev entry : Loop → tie.Start invariant-loop decreases-loop
 entry c = (word c).before.before.before.before.before
 
-reached : (c : Loop) → c.loop.at ≤ (entry c).args.start + 6 + cellSize * c.loop.column
+reached : (c : Loop) → c.loop.at ≤ (entry c).args.start + 6 + cell_size * c.loop.column
 reached c =
     let x = (entry c).args in
-    omega (arith, c.loop.invariant.2.place, flows-short (measureIs x.measure) x.sums.now c.loop.column, (word c).write-text.ensures.place)
+    omega (arith, c.loop.invariant.2.place, flows_short (measure_is x.measure) x.sums.now c.loop.column, (word c).write-text.ensures.place)
 
 loop-holds : tie.Need-loop-init invariant-loop decreases-loop
 loop-holds c = (omega arith, refl, written_none _ _)
@@ -52,20 +52,20 @@ loop-again c =
     let written = c.before.before.write-flow in (
       omega arith,
       written.auto.0 ∙ l.invariant.1,
-      rw (cells-more (λ (i : ℕ). flowText (measureIs x.measure) (get_or x.sums.now i 0)) l.column)
-          (written-more (omega (arith, reached t)) l.invariant.2 written.ensures),
+      rw (cells_more (λ (i : ℕ). flow_text (measure_is x.measure) (get_or x.sums.now i 0)) l.column)
+          (written_more (omega (arith, reached t)) l.invariant.2 written.ensures),
     )
 
 write-byte-requires : tie.Need-write-byte-requires invariant-loop decreases-loop
 write-byte-requires c κs = omega (arith, reached c.before.before)
 
 returns : tie.Need-returns invariant-loop decreases-loop
-unfolding sumLine
+unfolding sum_line
 returns c =
     let t = c.before.before.before.before.before in
     let l = t.loop in
     let all : l.column ≡ length (entry t).args.sums.now = omega arith in
-    written-more (omega (arith, reached t)) (written-more (omega arith) (word t).write-text.ensures (rw all at l.invariant.2)) c.before.before.write_byte.ensures
+    written_more (omega (arith, reached t)) (written_more (omega arith) (word t).write-text.ensures (rw all at l.invariant.2)) c.before.before.write_byte.ensures
 
 pub write-sums-spec : {M : Type 1} → statement M
 write-sums-spec =

@@ -1,6 +1,6 @@
 -- Each way is one law of what a line comes to: by its head, and by its record's place.
 use borrow.Author.Rules.{rules}
-use Rattle.sorting.specs.Sorted.{skipped, unknown, misplaced, passed, with-name, last, with-fields}
+use Rattle.sorting.specs.Sorted.{skipped, unknown, misplaced, passed, with_name, last, with_fields}
 use Rattle.sorting.proofs.sort_line.Statement.{statement}
 use Rattle.sorting.proofs.sort_line.Tie as tie
 
@@ -43,7 +43,7 @@ returns-5 c =
     let s = p.before.before.before.before.before.before.before in
     let h = p.before.before.before.before.head_of in
     let k = p.before.before.k in
-    with-name s.args.r s.args.cards.now s.args.l.now s.requires.0 h.result h.ensures.0 k.given.0.0 k.given.1
+    with_name s.args.r s.args.cards.now s.args.l.now s.requires.0 h.result h.ensures.0 k.given.0.0 k.given.1
     p.place-record.result p.place-record.ensures.0 c.enum-told4.given.1
 
 returns-6 : tie.Need-returns-6
@@ -61,7 +61,7 @@ returns-7 c =
     let s = p.before.before.before.before.before.before.before in
     let h = p.before.before.before.before.head_of in
     let k = p.before.before.k in
-    with-fields s.args.r s.args.cards.now s.args.l.now s.requires.0 h.result h.ensures.0 k.given.0.0 k.given.1
+    with_fields s.args.r s.args.cards.now s.args.l.now s.requires.0 h.result h.ensures.0 k.given.0.0 k.given.1
     p.place-record.result p.place-record.ensures.0 c.before.item.given.0.0 c.before.item.given.1 p.place-record.ensures.1
 
 pub sort-line-spec : {M : Type 1} → statement M

@@ -1,20 +1,20 @@
--- The records of an accepted deck lie within their room, by `accepted-fits`: there is a product of counts that fits, and what is lent on.
+-- The records of an accepted deck lie within their room, by `accepted_fits`: there is a product of counts that fits, and what is lent on.
 use Prim.Native.Nat.{◌≤◌}
 use mathlib.Core.Path.{sym}
 use native.Mathlib.Omega.{arith}
 use lib.Seq.{length-take-le}
-use Rattle.meaning.specs.Run.{recordBytes}
-use Rattle.store.specs.Kept.{accepted-fits}
+use Rattle.meaning.specs.Run.{record_bytes}
+use Rattle.store.specs.Kept.{accepted_fits}
 use borrow.Author.Rules.{rules}
 use Rattle.store.proofs.keep_records.Statement.{statement}
 use Rattle.store.proofs.keep_records.Tie as tie
 
-fits : (c : tie.After-known-told) → (let a = c.before.blocks2.given in recordBytes a.0.1.0 a.0.1.1.0 ≤ 72_000)
+fits : (c : tie.After-known-told) → (let a = c.before.blocks2.given in record_bytes a.0.1.0 a.0.1.1.0 ≤ 72_000)
 fits c =
     let told = c.before.blocks2.given in
     let r = c.before.before.before.before.before.before in
     let deck = r.before.before.before.before.before.args.deck.now in
-    accepted-fits deck 0 0 _ r.run.result _ _ _ r.run.ensures told.1
+    accepted_fits deck 0 0 _ r.run.result _ _ _ r.run.ensures told.1
 
 mul-n : tie.Need-overflow-mul-n
 mul-n c = omega (arith, fits c)

@@ -1,4 +1,4 @@
--- What was asked is tested as `movedAs` has it.
+-- What was asked is tested as `moved_as` has it.
 use borrow.Author.Tests.{eq-eqb, ne_eqb}
 use Rattle.sequences.specs.Choices.{taken, passed}
 use borrow.Author.Rules.{rules}

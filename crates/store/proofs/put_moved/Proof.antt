@@ -1,8 +1,8 @@
--- A file that was moved lies within its room, by `moved-fits`.
+-- A file that was moved lies within its room, by `moved_fits`.
 use mathlib.Core.Path.{sym}
 use lib.ListN.{length}
 use lib.Seq.{length-take-le}
-use Rattle.store.specs.Kept.{moved-fits}
+use Rattle.store.specs.Kept.{moved_fits}
 use borrow.Author.Rules.{rules}
 use Rattle.store.proofs.put_moved.Statement.{statement}
 use Rattle.store.proofs.put_moved.Tie as tie
@@ -11,7 +11,7 @@ slice-reshare-prefix-print : tie.Need-slice-reshare-prefix-print
 slice-reshare-prefix-print c =
     let m = c.before.before.before.before.before in
     let x = m.before.before.before.before.args in
-    moved-fits x.asked x.file.now (length x.room.now) m.move-file.result _ m.move-file.ensures c.before.n.given.1
+    moved_fits x.asked x.file.now (length x.room.now) m.move-file.result _ m.move-file.ensures c.before.n.given.1
 
 slice-aggregate-print : tie.Need-slice-aggregate-print
 slice-aggregate-print c = sym (length-take-le _ _ (slice-reshare-prefix-print c.before))

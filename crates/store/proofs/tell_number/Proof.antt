@@ -1,20 +1,20 @@
 -- A number has at most 20 digits; what was written lies within the slice.
 use native.Mathlib.Omega.{arith}
 use Rattle.meaning.specs.Words.{bytes}
-use Rattle.text.specs.Line.{told-short}
-use Rattle.text.specs.Counted.{written-counted}
+use Rattle.text.specs.Line.{told_short}
+use Rattle.text.specs.Counted.{written_counted}
 use borrow.Author.Rules.{rules}
 use Rattle.store.proofs.tell_number.Statement.{statement}
 use Rattle.store.proofs.tell_number.Tie as tie
 
 write-told-requires : tie.Need-write-told-requires
-write-told-requires c κs = omega (arith, told-short (bytes "REFUSED ") c.before.before.args.number (omega arith))
+write-told-requires c κs = omega (arith, told_short (bytes "REFUSED ") c.before.before.args.number (omega arith))
 
 array-share-prefix-out : tie.Need-array-share-prefix-out
-array-share-prefix-out c = (written-counted c.before.write-told.ensures).within
+array-share-prefix-out c = (written_counted c.before.write-told.ensures).within
 
 slice-aggregate-say : tie.Need-slice-aggregate-say
-slice-aggregate-say c = (written-counted c.before.before.write-told.ensures).front
+slice-aggregate-say c = (written_counted c.before.before.write-told.ensures).front
 
 pub tell-number-spec : {M : Type 1} → statement M
 tell-number-spec =

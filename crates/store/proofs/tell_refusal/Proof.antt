@@ -1,14 +1,14 @@
 -- What was written lies within the slice.
-use Rattle.text.specs.Counted.{written-counted}
+use Rattle.text.specs.Counted.{written_counted}
 use borrow.Author.Rules.{rules}
 use Rattle.store.proofs.tell_refusal.Statement.{statement}
 use Rattle.store.proofs.tell_refusal.Tie as tie
 
 array-share-prefix-out : tie.Need-array-share-prefix-out
-array-share-prefix-out c = (written-counted c.before.write-refusal.ensures).within
+array-share-prefix-out c = (written_counted c.before.write-refusal.ensures).within
 
 slice-aggregate-say : tie.Need-slice-aggregate-say
-slice-aggregate-say c = (written-counted c.before.before.write-refusal.ensures).front
+slice-aggregate-say c = (written_counted c.before.before.write-refusal.ensures).front
 
 pub tell-refusal-spec : {M : Type 1} → statement M
 tell-refusal-spec =

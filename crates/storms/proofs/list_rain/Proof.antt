@@ -4,15 +4,15 @@ use mathlib.Core.Path.{◌≡◌}
 use mathlib.Core.List.{List}
 use native.Mathlib.Omega.{arith}
 use lib.ListN.{length}
-use Rattle.sequences.specs.Filling.{Filled, filled_none, filled_more, filled-all}
-use Rattle.meaning.specs.Water.{sum_of, rainOf}
-use Rattle.storms.specs.Rains.{depth_of, rainFrom, rain-sum, rain-whole, rain-next, rain-past}
+use Rattle.sequences.specs.Filling.{Filled, filled_none, filled_more, filled_all}
+use Rattle.meaning.specs.Water.{sum_of, rain_of}
+use Rattle.storms.specs.Rains.{depth_of, rain_from, rain-sum, rain-whole, rain-next, rain_past}
 use Rattle.storms.proofs.list_rain.Statement.{statement}
 use Rattle.storms.proofs.list_rain.Tie as tie
 
 record Inv (rains rain₀ rain : List ℕ) (sum i : ℕ) : Type 0 where
   filled : Filled (depth_of rains) rain₀ rain i
-  left : sum + rainFrom rains (length rain₀) i ≡ sum_of (rainOf rains (length rain₀))
+  left : sum + rain_from rains (length rain₀) i ≡ sum_of (rain_of rains (length rain₀))
 
 abbrev invariant-loop : tie.invariant-loop
 invariant-loop rain₀ rains sum₀ i₀ rain sum i = Inv rains rain₀ rain sum i
@@ -45,12 +45,12 @@ loop-again c =
     }
 
 returns : tie.Need-returns invariant-loop decreases-loop
-unfolding rainOf
+unfolding rain_of
 returns c =
     let x = c.before.before.before.before.args in
     let l = c.before.loop in
-    let none = rain-past x.rains.now (length x.rain.now) l.i (omega arith) in (
-      filled-all _ _ _ _ l.invariant.filled (omega arith),
+    let none = rain_past x.rains.now (length x.rain.now) l.i (omega arith) in (
+      filled_all _ _ _ _ l.invariant.filled (omega arith),
       omega (arith, l.invariant.left, none),
     )
 

@@ -3,7 +3,7 @@ use mathlib.Core.Path.{◌≡◌, ◌∙◌}
 use native.Mathlib.Omega.{arith}
 use borrow.Author.Rules.{rules}
 use lib.ListN.{length}
-use Rattle.meaning.specs.Water.{sum_of, rainOf}
+use Rattle.meaning.specs.Water.{sum_of, rain_of}
 use Rattle.storms.specs.Rains.{rain-sum, dry-total}
 use Rattle.storms.proofs.storm_into.Statement.{statement}
 use Rattle.storms.proofs.storm_into.Tie as tie
@@ -24,8 +24,8 @@ returns-2 : tie.Need-returns-2
 returns-2 c =
     let x = c.before.before.before.before.before.before.before.args in
     let listed = c.before.before.before.list-rain.ensures in
-    let none : sum_of (rainOf x.rains.now (length x.rain.now)) ≡ 0 = omega (arith, c.if1.false, listed.1) in
-    listed.0 ∙ dry-total x.total (rainOf x.rains.now (length x.rain.now)) none
+    let none : sum_of (rain_of x.rains.now (length x.rain.now)) ≡ 0 = omega (arith, c.if1.false, listed.1) in
+    listed.0 ∙ dry-total x.total (rain_of x.rains.now (length x.rain.now)) none
 
 pub storm-into-spec : {M : Type 1} → statement M
 storm-into-spec = tie.close (tie.spec (λ c κs. search rules) cut-requires (λ c. search rules) returns (λ c. search rules) returns-2)

@@ -2,9 +2,9 @@
 use Prim.Native.Nat.{ℕ, ◌+◌, ◌^◌, ◌≤◌, ◌<◌}
 use native.Mathlib.Omega.{arith}
 use lib.ListN.{length}
-use Rattle.sequences.specs.Bounds.{AllUpTo, bound-part}
+use Rattle.sequences.specs.Bounds.{AllUpTo, bound_part}
 use Rattle.sequences.specs.Parts.{part, length_part}
-use Rattle.slices.specs.Bytes.{fromLittleEndian, value-below}
+use Rattle.slices.specs.Bytes.{from_little_endian, value_below}
 use borrow.Author.Rules.{rules}
 use Rattle.streams.proofs.case_of.Statement.{statement}
 use Rattle.streams.proofs.case_of.Tie as tie
@@ -14,8 +14,8 @@ returns c =
     let known = c.before.before.before in
     let head = known.before.args.head.now in
     let bytes : AllUpTo 255 head = λ (k : ℕ). omega (arith, known.shared-slice-known.given k) in
-    let below : (at : ℕ) → at + 4 ≤ length head → fromLittleEndian (part at 4 head) < 256 ^ 4 =
-    λ (at : ℕ) (fits : at + 4 ≤ length head). rw (length_part at 4 head fits) at (value-below (part at 4 head) (bound-part 255 at 4 head bytes)) in
+    let below : (at : ℕ) → at + 4 ≤ length head → from_little_endian (part at 4 head) < 256 ^ 4 =
+    λ (at : ℕ) (fits : at + 4 ≤ length head). rw (length_part at 4 head fits) at (value_below (part at 4 head) (bound_part 255 at 4 head bytes)) in
     record {
       named = rw c.before.before.number_at.ensures (below 0 (omega arith));
       ratio = rw c.before.number-at2.ensures (below 4 (omega arith));

@@ -1,5 +1,5 @@
 -- What is kept lies within what is lent.
-use Rattle.streams.specs.Numbers.{kept-fits}
+use Rattle.streams.specs.Numbers.{kept_fits}
 use borrow.Author.Rules.{rules}
 use Rattle.streams.proofs.next_deck.Statement.{statement}
 use Rattle.streams.proofs.next_deck.Tie as tie
@@ -7,7 +7,7 @@ use Rattle.streams.proofs.next_deck.Tie as tie
 returns : tie.Need-returns
 returns c =
     let d = c.before.before in
-    kept-fits d.before.before.before.size.given.0.0 d.read-deck.new.0 d.read-deck.result d.read-deck.ensures
+    kept_fits d.before.before.before.size.given.0.0 d.read-deck.new.0 d.read-deck.result d.read-deck.ensures
 
 pub next-deck-spec : {M : Type 1} → statement M
 next-deck-spec =

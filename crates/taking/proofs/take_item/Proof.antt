@@ -2,25 +2,25 @@
 use mathlib.Core.Path.{◌≡◌}
 use native.Mathlib.Omega.{arith}
 use borrow.Author.Rules.{rules}
-use Rattle.blocks.specs.Meant.{timeIs}
-use Rattle.scanning.specs.Scans.{scannedOf}
+use Rattle.blocks.specs.Meant.{time_is}
+use Rattle.scanning.specs.Scans.{scanned_of}
 use Rattle.placing.specs.declared.Phase.TheVariants as phase
-use Rattle.placing.specs.Places.{Due, due-inside}
-use Rattle.taking.specs.Taken.{item-outside, item-line}
+use Rattle.placing.specs.Places.{Due, due_inside}
+use Rattle.taking.specs.Taken.{item_outside, item_line}
 use Rattle.taking.proofs.take_item.Statement.{statement}
 use Rattle.taking.proofs.take_item.Tie as tie
 
 place : (c : tie.Start) → c.args.r.phase ≡ phase.InBlock
-place c = let x = c.args in due-inside x.r.phase (timeIs x.r.time) x.item x.cards.now c.requires.0.2 c.requires.0.0
+place c = let x = c.args in due_inside x.r.phase (time_is x.r.time) x.item x.cards.now c.requires.0.2 c.requires.0.0
 
-due : (c : tie.Start) → Due phase.InBlock (timeIs c.args.r.time) c.args.item c.args.cards.now
+due : (c : tie.Start) → Due phase.InBlock (time_is c.args.r.time) c.args.item c.args.cards.now
 due c = rw (place c) at c.requires.0.2
 
 returns : tie.Need-returns
 returns c =
     let s = c.before.before.before in
     let x = s.args in
-    item-outside x.r x.item (scannedOf x.values.now x.scan) x.cards.now (place s) (due s) c.if1.true
+    item_outside x.r x.item (scanned_of x.values.now x.scan) x.cards.now (place s) (due s) c.if1.true
 
 take-values-requires : tie.Need-take-values-requires
 take-values-requires c κs =
@@ -33,7 +33,7 @@ returns-2 c =
     let s = c.before.before.before.before.before.before.before.before in
     let x = s.args in
     let t = c.before.before.take-values in
-    item-line x.r x.item (scannedOf x.values.now x.scan) x.cards.now c.before.before.before.before.before.if1.false s.requires.0.1 (place s) (due s)
+    item_line x.r x.item (scanned_of x.values.now x.scan) x.cards.now c.before.before.before.before.before.if1.false s.requires.0.1 (place s) (due s)
     t.result t.new.0 t.ensures
 
 pub take-item-spec : {M : Type 1} → statement M

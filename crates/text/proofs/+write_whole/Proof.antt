@@ -2,8 +2,8 @@
 use mathlib.Core.Path.{ap, ◌∙◌}
 use native.Mathlib.Omega.{arith}
 use lib.ListN.{length}
-use Rattle.text.specs.Digits.{whole-small, whole-more, whole-longer}
-use Rattle.text.specs.Written.{written-more}
+use Rattle.text.specs.Digits.{whole_small, whole_more, whole_longer}
+use Rattle.text.specs.Written.{written_more}
 use Prim.Native.Nat.{ℕ, ◌<◌}
 use borrow.Fn.Kinds.{In}
 use borrow.Fn.PlainCycle.{Measures, is, falls, and}
@@ -26,7 +26,7 @@ abbrev write-whole-below : ℕ → In 1 write-whole-kinds.ps
 write-whole-below t =
     and 1 write-whole-kinds.ps (falls 1 write-whole-kinds.ps ◌<◌ μ-write-whole t) write-whole.Pre
 
-write-whole-digit-of-requires : (t : ℕ) → write-whole-lts.Need-digit-of-requires (
+write_whole-digit_of_requires : (t : ℕ) → write-whole-lts.Need-digit-of-requires (
   digit-of-reads.Asked,
   digit-of-reads.Learnt,
   write-byte-reads.Asked,
@@ -34,9 +34,9 @@ write-whole-digit-of-requires : (t : ℕ) → write-whole-lts.Need-digit-of-requ
   write-whole-below t,
   write-whole.Post,
 ) (write-whole-at t) write-whole.Post
-write-whole-digit-of-requires t c κs = omega arith
+write_whole-digit_of_requires t c κs = omega arith
 
-write-whole-write-byte-requires : (t : ℕ) → write-whole-lts.Need-write-byte-requires (
+write_whole_write_byte_requires : (t : ℕ) → write-whole-lts.Need-write-byte-requires (
   digit-of-reads.Asked,
   digit-of-reads.Learnt,
   write-byte-reads.Asked,
@@ -44,9 +44,9 @@ write-whole-write-byte-requires : (t : ℕ) → write-whole-lts.Need-write-byte-
   write-whole-below t,
   write-whole.Post,
 ) (write-whole-at t) write-whole.Post
-write-whole-write-byte-requires t c κs = omega (arith, ap length (whole-small c.before.before.before.before.args.x c.before.before.if1.true))
+write_whole_write_byte_requires t c κs = omega (arith, ap length (whole_small c.before.before.before.before.args.x c.before.before.if1.true))
 
-write-whole-same-length : (t : ℕ) → write-whole-lts.Need-same-length (
+write_whole_same_length : (t : ℕ) → write-whole-lts.Need-same-length (
   digit-of-reads.Asked,
   digit-of-reads.Learnt,
   write-byte-reads.Asked,
@@ -54,9 +54,9 @@ write-whole-same-length : (t : ℕ) → write-whole-lts.Need-same-length (
   write-whole-below t,
   write-whole.Post,
 ) (write-whole-at t) write-whole.Post
-write-whole-same-length t c = c.before.before.write_byte.auto.0
+write_whole_same_length t c = c.before.before.write_byte.auto.0
 
-write-whole-returns : (t : ℕ) → write-whole-lts.Need-returns (
+write_whole_returns : (t : ℕ) → write-whole-lts.Need-returns (
   digit-of-reads.Asked,
   digit-of-reads.Learnt,
   write-byte-reads.Asked,
@@ -64,9 +64,9 @@ write-whole-returns : (t : ℕ) → write-whole-lts.Need-returns (
   write-whole-below t,
   write-whole.Post,
 ) (write-whole-at t) write-whole.Post
-write-whole-returns t c = rw (whole-small _ c.before.before.before.before.before.if1.true, ← c.before.before.before.digit-of.ensures) c.before.before.write_byte.ensures
+write_whole_returns t c = rw (whole_small _ c.before.before.before.before.before.if1.true, ← c.before.before.before.digit-of.ensures) c.before.before.write_byte.ensures
 
-write-whole-write-whole-requires : (t : ℕ) → write-whole-lts.Need-write-whole-requires (
+write_whole_write_whole_requires : (t : ℕ) → write-whole-lts.Need-write-whole-requires (
   digit-of-reads.Asked,
   digit-of-reads.Learnt,
   write-byte-reads.Asked,
@@ -74,9 +74,9 @@ write-whole-write-whole-requires : (t : ℕ) → write-whole-lts.Need-write-whol
   write-whole-below t,
   write-whole.Post,
 ) (write-whole-at t) write-whole.Post
-write-whole-write-whole-requires t c κs = omega (arith, whole-longer c.before.before.before.args.x c.before.if1.false (omega arith))
+write_whole_write_whole_requires t c κs = omega (arith, whole_longer c.before.before.before.args.x c.before.if1.false (omega arith))
 
-write-whole-digit-of-requires-2 : (t : ℕ) → write-whole-lts.Need-digit-of-requires-2 (
+write_whole-digit_of_requires_2 : (t : ℕ) → write-whole-lts.Need-digit-of-requires-2 (
   digit-of-reads.Asked,
   digit-of-reads.Learnt,
   write-byte-reads.Asked,
@@ -84,9 +84,9 @@ write-whole-digit-of-requires-2 : (t : ℕ) → write-whole-lts.Need-digit-of-re
   write-whole-below t,
   write-whole.Post,
 ) (write-whole-at t) write-whole.Post
-write-whole-digit-of-requires-2 t c κs = omega arith
+write_whole-digit_of_requires_2 t c κs = omega arith
 
-write-whole-write-byte-requires-2 : (t : ℕ) → write-whole-lts.Need-write-byte-requires-2 (
+write_whole_write_byte_requires_2 : (t : ℕ) → write-whole-lts.Need-write-byte-requires-2 (
   digit-of-reads.Asked,
   digit-of-reads.Learnt,
   write-byte-reads.Asked,
@@ -94,11 +94,11 @@ write-whole-write-byte-requires-2 : (t : ℕ) → write-whole-lts.Need-write-byt
   write-whole-below t,
   write-whole.Post,
 ) (write-whole-at t) write-whole.Post
-write-whole-write-byte-requires-2 t c κs =
+write_whole_write_byte_requires_2 t c κs =
     let passed = c.before.before.before.before.before.before in
-    omega (arith, whole-longer passed.before.before.args.x passed.if1.false (omega arith))
+    omega (arith, whole_longer passed.before.before.args.x passed.if1.false (omega arith))
 
-write-whole-same-length-2 : (t : ℕ) → write-whole-lts.Need-same-length-2 (
+write_whole_same_length_2 : (t : ℕ) → write-whole-lts.Need-same-length-2 (
   digit-of-reads.Asked,
   digit-of-reads.Learnt,
   write-byte-reads.Asked,
@@ -106,9 +106,9 @@ write-whole-same-length-2 : (t : ℕ) → write-whole-lts.Need-same-length-2 (
   write-whole-below t,
   write-whole.Post,
 ) (write-whole-at t) write-whole.Post
-write-whole-same-length-2 t c = c.before.before.write-byte2.auto.0 ∙ c.before.before.before.before.before.before.before.write-whole.auto.0
+write_whole_same_length_2 t c = c.before.before.write-byte2.auto.0 ∙ c.before.before.before.before.before.before.before.write-whole.auto.0
 
-write-whole-returns-2 : (t : ℕ) → write-whole-lts.Need-returns-2 (
+write_whole_returns_2 : (t : ℕ) → write-whole-lts.Need-returns-2 (
   digit-of-reads.Asked,
   digit-of-reads.Learnt,
   write-byte-reads.Asked,
@@ -116,12 +116,12 @@ write-whole-returns-2 : (t : ℕ) → write-whole-lts.Need-returns-2 (
   write-whole-below t,
   write-whole.Post,
 ) (write-whole-at t) write-whole.Post
-write-whole-returns-2 t c =
+write_whole_returns_2 t c =
     let tenth = c.before.before.before.before.before.before.before in
     let x = tenth.before.before.before.before.args.x in
     let several = tenth.before.before.if1.false in
-    let longer = whole-longer x several (omega arith) in
-    rw (whole-more x several (omega arith), ← c.before.before.before.digit-of2.ensures) (written-more (omega arith) tenth.write-whole.ensures c.before.before.write-byte2.ensures)
+    let longer = whole_longer x several (omega arith) in
+    rw (whole_more x several (omega arith), ← c.before.before.before.digit-of2.ensures) (written_more (omega arith) tenth.write-whole.ensures c.before.before.write-byte2.ensures)
 
 pub +write-whole-spec : {M : Type 1} → statement M
 +write-whole-spec = close μ-write-whole λ t. write-whole-lts.spec (
@@ -134,12 +134,12 @@ pub +write-whole-spec : {M : Type 1} → statement M
 )
     (write-whole-at t)
     write-whole.Post
-    (write-whole-digit-of-requires t)
-    (write-whole-write-byte-requires t)
-    (write-whole-same-length t)
-    (write-whole-returns t)
-    (write-whole-write-whole-requires t)
-    (write-whole-digit-of-requires-2 t)
-    (write-whole-write-byte-requires-2 t)
-    (write-whole-same-length-2 t)
-    (write-whole-returns-2 t)
+    (write_whole-digit_of_requires t)
+    (write_whole_write_byte_requires t)
+    (write_whole_same_length t)
+    (write_whole_returns t)
+    (write_whole_write_whole_requires t)
+    (write_whole-digit_of_requires_2 t)
+    (write_whole_write_byte_requires_2 t)
+    (write_whole_same_length_2 t)
+    (write_whole_returns_2 t)

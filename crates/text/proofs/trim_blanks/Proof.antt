@@ -5,19 +5,19 @@ use native.Mathlib.Omega.{arith}
 use borrow.Author.Tests.{eq-eqb, ne_eqb}
 use lib.ListN.{length, take}
 use lib.Seq.{take-length, length-take-le}
-use Rattle.meaning.specs.Fields.{trimEnd, isBlank}
+use Rattle.meaning.specs.Fields.{trim_end, is_blank}
 use Rattle.sequences.specs.Trimming.{take_none, take-pass, take-stop}
 use Rattle.text.proofs.trim_blanks.Statement.{statement}
 use Rattle.text.proofs.trim_blanks.Tie as tie
 
 abbrev invariant-loop : tie.invariant-loop
-invariant-loop s n₀ n = (n ≤ length s) × (trimEnd isBlank (take n s) ≡ trimEnd isBlank s)
+invariant-loop s n₀ n = (n ≤ length s) × (trim_end is_blank (take n s) ≡ trim_end is_blank s)
 
 abbrev decreases-loop : tie.decreases-loop
 decreases-loop s n₀ n = n
 
 loop-holds : tie.Need-loop-init invariant-loop decreases-loop
-loop-holds c = (omega arith, ap (trimEnd isBlank) (take-length c.args.s.now))
+loop-holds c = (omega arith, ap (trim_end is_blank) (take-length c.args.s.now))
 
 slice-aggregate-result : tie.Need-slice-aggregate-result invariant-loop decreases-loop
 slice-aggregate-result c = sym (length-take-le c.before.before.before.before.loop.n c.before.before.before.before.before.args.s.now (omega arith))
@@ -26,13 +26,13 @@ returns : tie.Need-returns invariant-loop decreases-loop
 returns c =
     let l = c.before.before.before.before.loop in
     let s = c.before.before.before.before.before.args.s.now in
-    sym (take-stop isBlank s l.n (omega arith) (omega arith) (ne_eqb _ _ c.before.if1.true)) ∙ l.invariant.1
+    sym (take-stop is_blank s l.n (omega arith) (omega arith) (ne_eqb _ _ c.before.if1.true)) ∙ l.invariant.1
 
 loop-again : tie.Need-loop-preserved invariant-loop decreases-loop
 loop-again c =
     let l = c.before.before.before.loop in
     let s = c.before.before.before.before.args.s.now in
-    (omega arith, sym (take-pass isBlank s l.n (omega arith) (omega arith) (eq-eqb _ _ c.if1.false)) ∙ l.invariant.1)
+    (omega arith, sym (take-pass is_blank s l.n (omega arith) (omega arith) (eq-eqb _ _ c.if1.false)) ∙ l.invariant.1)
 
 slice-aggregate-result-2 : tie.Need-slice-aggregate-result-2 invariant-loop decreases-loop
 slice-aggregate-result-2 c = sym (length-take-le c.before.before.loop.n c.before.before.before.args.s.now (omega arith))
@@ -42,7 +42,7 @@ returns-2 c =
     let l = c.before.before.loop in
     let s = c.before.before.before.args.s.now in
     let none : l.n ≡ 0 = omega arith in
-    sym (take_none isBlank s l.n none) ∙ l.invariant.1
+    sym (take_none is_blank s l.n none) ∙ l.invariant.1
 
 pub trim-blanks-spec : {M : Type 1} → statement M
 trim-blanks-spec =

@@ -1,12 +1,12 @@
 -- The blank, and the hundredths behind it.
-use Rattle.text.specs.Written.{written-more}
+use Rattle.text.specs.Written.{written_more}
 use native.Mathlib.Omega.{arith}
 use borrow.Author.Rules.{rules}
 use Rattle.text.proofs.write_amount.Statement.{statement}
 use Rattle.text.proofs.write_amount.Tie as tie
 
 returns : tie.Need-returns
-returns c = written-more (omega arith) c.before.before.before.before.before.before.write_byte.ensures c.before.before.write-two-places.ensures
+returns c = written_more (omega arith) c.before.before.before.before.before.before.write_byte.ensures c.before.before.write-two-places.ensures
 
 pub write-amount-spec : {M : Type 1} → statement M
 write-amount-spec =

@@ -3,7 +3,7 @@ use Prim.Native.Nat.{◌/◌, ◌%◌}
 use mathlib.Core.Path.{◌≡◌}
 use native.Mathlib.Omega.{arith}
 use Rattle.meaning.specs.Listing.{digit}
-use Rattle.text.specs.Written.{written-more}
+use Rattle.text.specs.Written.{written_more}
 use borrow.Author.Rules.{rules}
 use Rattle.text.proofs.write_three_digits.Statement.{statement}
 use Rattle.text.proofs.write_three_digits.Tie as tie
@@ -18,7 +18,7 @@ returns c =
     let second : digit (x / 10 % 10) ≡ c₂.before.digit-of2.result = omega (arith, c₂.before.digit-of2.ensures) in
     let third : digit (x % 10) ≡ c₃.before.digit-of3.result = omega (arith, c₃.before.digit-of3.ensures) in
     rw (first, second, third)
-    (written-more (omega arith) c₁.write_byte.ensures (written-more (omega arith) c₂.write-byte2.ensures c₃.write-byte3.ensures))
+    (written_more (omega arith) c₁.write_byte.ensures (written_more (omega arith) c₂.write-byte2.ensures c₃.write-byte3.ensures))
 
 pub write-three-digits-spec : {M : Type 1} → statement M
 write-three-digits-spec =

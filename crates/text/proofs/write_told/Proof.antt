@@ -1,7 +1,7 @@
 -- The word, the number and the line's end, one behind another.
 use native.Mathlib.Omega.{arith}
 use Rattle.text.specs.Line.{length-told}
-use Rattle.text.specs.Written.{written-more}
+use Rattle.text.specs.Written.{written_more}
 use borrow.Author.Rules.{rules}
 use Rattle.text.proofs.write_told.Statement.{statement}
 use Rattle.text.proofs.write_told.Tie as tie
@@ -28,7 +28,7 @@ returns c =
     let word = number.before.before.before.before in
     let x = word.before.before.before.before.args in
     let room = length-told x.word.now x.x in
-    written-more (omega arith) (written-more (omega arith) word.write-text.ensures number.write-whole.ensures) end.write_byte.ensures
+    written_more (omega arith) (written_more (omega arith) word.write-text.ensures number.write-whole.ensures) end.write_byte.ensures
 
 pub write-told-spec : {M : Type 1} → statement M
 write-told-spec =

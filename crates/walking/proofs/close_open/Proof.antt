@@ -3,13 +3,13 @@ use Prim.Native.Nat.{◌≤◌, ◌+◌}
 use mathlib.Core.Path.{◌≡◌, refl}
 use native.Mathlib.Omega.{arith}
 use borrow.Author.Rules.{rules}
-use Rattle.meaning.specs.Run.{mostBlocks}
+use Rattle.meaning.specs.Run.{most_blocks}
 use Rattle.placing.specs.declared.Phase.TheVariants as phase
-use Rattle.walking.specs.Going.{held-as}
+use Rattle.walking.specs.Going.{held_as}
 use Rattle.walking.proofs.close_open.Statement.{statement}
 use Rattle.walking.proofs.close_open.Tie as tie
 
-counted : (c : tie.Start) → c.args.r.phase ≡ phase.InBlock → (c.args.blocks ≡ c.requires.before + 1) × (c.args.blocks ≤ mostBlocks)
+counted : (c : tie.Start) → c.args.r.phase ≡ phase.InBlock → (c.args.blocks ≡ c.requires.before + 1) × (c.args.blocks ≤ most_blocks)
 counted c at = rw at at c.requires.count
 
 sub-k : tie.Need-overflow-sub-k
@@ -20,7 +20,7 @@ finish-block-requires c κs =
     let s = c.before.before.before.before.before.before.before.before.before in
     let at = c.before.before.before.enum-told3.given.1 in
     let k = counted s at in
-    record { ready = s.requires.ready; place = at; within = s.requires.within; held = held-as _ s.requires.before (omega arith) s.requires.held; few = omega arith; few-ratios = s.requires.few-ratios }
+    record { ready = s.requires.ready; place = at; within = s.requires.within; held = held_as _ s.requires.before (omega arith) s.requires.held; few = omega arith; few-ratios = s.requires.few-ratios }
 
 returns : tie.Need-returns
 returns c = rw c.enum_told.given.1 (refl, refl, refl, refl, refl)

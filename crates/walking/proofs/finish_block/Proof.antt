@@ -3,17 +3,17 @@ use mathlib.Core.Path.{refl}
 use mathlib.Core.List.{[]}
 use native.Mathlib.Omega.{arith}
 use borrow.Author.Rules.{rules}
-use Rattle.blocks.specs.Meant.{nameIs}
+use Rattle.blocks.specs.Meant.{name_is}
 use Rattle.limits.specs.Within.{ReadingWithin}
 use Rattle.meaning.specs.Run.{InBlock}
 use Rattle.fields.specs.Spans.{form_of}
-use Rattle.blocks.specs.Meant.{timeIs}
-use Rattle.placing.specs.Readings.{blockIs}
+use Rattle.blocks.specs.Meant.{time_is}
+use Rattle.placing.specs.Readings.{block_is}
 use Rattle.closing.specs.BetweenBlocks.{held-within}
 use Rattle.walking.proofs.finish_block.Statement.{statement}
 use Rattle.walking.proofs.finish_block.Tie as tie
 
-within : (c : tie.Start) → ReadingWithin (InBlock (timeIs c.args.r.time) (form_of c.args.r.free) (blockIs c.args.r c.args.cards.now))
+within : (c : tie.Start) → ReadingWithin (InBlock (time_is c.args.r.time) (form_of c.args.r.free) (block_is c.args.r c.args.cards.now))
 within c = rw c.requires.place at c.requires.within
 
 close-block-requires : tie.Need-close-block-requires
@@ -29,7 +29,7 @@ returns c =
     let k = c.before.before.before.before.close_block in
     record {
       closed = k.result;
-      closes = k.ensures (nameIs s.args.r.name);
+      closes = k.ensures (name_is s.args.r.name);
       number = refl;
       held = refl;
       copied = λ z. absurd (c.if1.true z);
@@ -51,7 +51,7 @@ returns-2 c =
     let wr = c.before.before.before.before.write-result in
     record {
       closed = k.result;
-      closes = k.ensures (nameIs s.args.r.name);
+      closes = k.ensures (name_is s.args.r.name);
       number = refl;
       held = refl;
       copied = λ z. wr.ensures.0;

@@ -10,14 +10,14 @@ use borrow.Author.Rules.{rules}
 use Rattle.reading.specs.declared.Event.TheVariants as event
 use Rattle.reading.specs.declared.Event.{Event}
 use Rattle.meaning.specs.Lines.{lines_of}
-use Rattle.events.specs.NextEvent.{nextEvent}
+use Rattle.events.specs.NextEvent.{next_event}
 use Rattle.placing.specs.declared.Reading.{Reading}
-use Rattle.placing.specs.Readings.{readingIs}
+use Rattle.placing.specs.Readings.{reading_is}
 use Rattle.reading.specs.Found.{FoundIs, Onward, OnwardBy}
 use Rattle.walking.specs.Events.{walk-missing, walk_refused}
-use Rattle.walking.specs.Going.{readingUnder, ClosedBy}
-use Rattle.walking.specs.ReadingOn.{found-counted, may-close}
-use Rattle.walking.specs.NextTurn.{kk-turn, zz-turn}
+use Rattle.walking.specs.Going.{reading_under, ClosedBy}
+use Rattle.walking.specs.ReadingOn.{found-counted, may_close}
+use Rattle.walking.specs.NextTurn.{kk_turn, zz_turn}
 use Rattle.walking.proofs.step.Statement.{statement}
 use Rattle.walking.proofs.step.Tie as tie
 
@@ -34,8 +34,8 @@ cards-long c = c.read-on.auto.1.1.1.1.0
 found : (c : tie.After-read-on) (e : Event) → c.read-on.result.event ≡ e
     → let x = (entry c).args in
     let g = c.read-on.result in
-    FoundIs e (readingIs g.reading (cards c)) g.name g.line (lines_of (drop g.at x.deck.now))
-    (nextEvent (lines_of (drop x.s.at x.deck.now)) (readingIs x.s.reading x.cards.now) (x.s.line + 1))
+    FoundIs e (reading_is g.reading (cards c)) g.name g.line (lines_of (drop g.at x.deck.now))
+    (next_event (lines_of (drop x.s.at x.deck.now)) (reading_is x.s.reading x.cards.now) (x.s.line + 1))
 found c e is = rw is at c.read-on.ensures.found
 
 abbrev Goes_on : tie.After-read-on → Type 0
@@ -52,11 +52,11 @@ which : (c : tie.At-match-branch)
     → (((read c).read-on.result.event ≡ event.Opened) × (c.match.ended ≡ false)) ⊎ (((read c).read-on.result.event ≡ event.Ended) × (c.match.ended ≡ true))
 which c = ⊎_elim (λ w. inl (w.1.given.1, w.2)) (λ w. inr (w.1.given.1, w.2)) c.match.branch
 
-is-kk : (c : tie.At-match-branch) → c.match.ended ≡ false → (read c).read-on.result.event ≡ event.Opened
-is-kk c h = ⊎_elim (λ w. w.0) (λ w. absurd (true≢false (sym w.1 ∙ h))) (which c)
+is_kk : (c : tie.At-match-branch) → c.match.ended ≡ false → (read c).read-on.result.event ≡ event.Opened
+is_kk c h = ⊎_elim (λ w. w.0) (λ w. absurd (true≢false (sym w.1 ∙ h))) (which c)
 
-is-zz : (c : tie.At-match-branch) → c.match.ended ≡ true → (read c).read-on.result.event ≡ event.Ended
-is-zz c h = ⊎_elim (λ w. absurd (false≢true (sym w.1 ∙ h))) (λ w. w.0) (which c)
+is_zz : (c : tie.At-match-branch) → c.match.ended ≡ true → (read c).read-on.result.event ≡ event.Ended
+is_zz c h = ⊎_elim (λ w. absurd (false≢true (sym w.1 ∙ h))) (λ w. w.0) (which c)
 
 onward : (c : tie.At-match-branch) → Goes_on (read c)
 onward c = ⊎_elim (λ w. goes_by (read c) event.Opened w.0) (λ w. goes_by (read c) event.Ended w.0) (which c)
@@ -72,7 +72,7 @@ close-open-requires c κs =
     let x = (entry p).args in
     let g = p.read-on.result in
     let close =
-    may-close x.deck.now x.named x.place (length x.ordinates.now) (length x.records.now) x.s x.work.now x.ordinates.now x.records.now x.cards.now
+    may_close x.deck.now x.named x.place (length x.ordinates.now) (length x.records.now) x.s x.work.now x.ordinates.now x.records.now x.cards.now
     (entry p).pre in
     rw u.read_under.ensures
     (⊎_elim
@@ -90,13 +90,13 @@ mark c = (rated c).before
 abbrev closed : tie.After-slice-known8 → tie.After-close-open
 closed c = c.before.before.before.before.before.before
 
-closed-by : (c : tie.After-slice-known8)
+closed_by : (c : tie.After-slice-known8)
     → let x = (entry (read (mark c))).args in
     let k = (closed c).close_open in
     let r = (read (mark c)).read-on.result.reading in
-    ClosedBy r.phase (readingUnder x.place r) x.s.held x.s.blocks x.named x.place k.result x.work.now k.last.1.1.1.1.0
+    ClosedBy r.phase (reading_under x.place r) x.s.held x.s.blocks x.named x.place k.result x.work.now k.last.1.1.1.1.0
     x.ordinates.now k.last.1.1.1.1.1.0 x.records.now k.last.1.1.1.1.1.1.0 (cards (read (mark c)))
-closed-by c =
+closed_by c =
     let x = (entry (read (mark c))).args in
     let k = (closed c).close_open in
     subst
@@ -140,11 +140,11 @@ returns-3 c =
     let m = mark c.before.before.before.before.before.before in
     let p = read m in
     let x = (entry p).args in
-    let is = is-zz m c.before.before.before.before.before.if1.true in
+    let is = is_zz m c.before.before.before.before.before.if1.true in
     let k = (closed c.before.before.before.before.before.before).close_open in
     let t = c.before.before.end-deck in
-    zz-turn x.deck.now x.named x.place (length x.ordinates.now) (length x.records.now) x.s x.work.now x.ordinates.now x.records.now x.cards.now (entry p).pre
-    p.read-on.result.reading p.read-on.result.line p.read-on.result.at (cards p) (onward m).ready k.result _ _ _ (closed-by c.before.before.before.before.before.before)
+    zz_turn x.deck.now x.named x.place (length x.ordinates.now) (length x.records.now) x.s x.work.now x.ordinates.now x.records.now x.cards.now (entry p).pre
+    p.read-on.result.reading p.read-on.result.line p.read-on.result.at (cards p) (onward m).ready k.result _ _ _ (closed_by c.before.before.before.before.before.before)
     k.kept.1.1.1.1.0 k.kept.1.1.1.1.1.0 k.kept.1.1.1.1.1.1.0 t.result (found p _ is) _ t.ensures
 
 same-length-10 : tie.Need-same-length-10
@@ -155,12 +155,12 @@ returns-4 c =
     let m = mark c.before.before.before.before.before in
     let p = read m in
     let x = (entry p).args in
-    let is = is-kk m c.before.before.before.before.if1.false in
+    let is = is_kk m c.before.before.before.before.if1.false in
     let o = onward m in
     let k = (closed c.before.before.before.before.before).close_open in
     let t = c.before.before.Open-next in
-    kk-turn x.deck.now x.named x.place (length x.ordinates.now) (length x.records.now) x.s x.work.now x.ordinates.now x.records.now x.cards.now (entry p).pre
-    p.read-on.result.reading p.read-on.result.line p.read-on.result.at (cards p) o.ready k.result _ _ _ (closed-by c.before.before.before.before.before)
+    kk_turn x.deck.now x.named x.place (length x.ordinates.now) (length x.records.now) x.s x.work.now x.ordinates.now x.records.now x.cards.now (entry p).pre
+    p.read-on.result.reading p.read-on.result.line p.read-on.result.at (cards p) o.ready k.result _ _ _ (closed_by c.before.before.before.before.before)
     k.kept.1.1.1.1.0 k.kept.1.1.1.1.1.0 k.kept.1.1.1.1.1.1.0 t.result p.read-on.result.name (found p _ is) o.within o.counted o.forth _ t.ensures
 
 pub step_spec : {M : Type 1} → statement M

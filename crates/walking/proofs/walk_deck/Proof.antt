@@ -15,9 +15,9 @@ use Rattle.walking.proofs.walk_deck.Tie as tie
 -- What holds of the walk between two blocks, with the lengths as they were lent.
 record Goes (deck : List ℕ) (named place : ℕ) (work₀ ordinates₀ records₀ cards₀ work ordinates records cards : List ℕ) (s : State) : Type 0 where
   going : Going deck named place (length ordinates₀) (length records₀) s work ordinates records cards
-  work-long : length work ≡ length work₀
-  ordinates-long : length ordinates ≡ length ordinates₀
-  records-long : length records ≡ length records₀
+  work_long : length work ≡ length work₀
+  ordinates_long : length ordinates ≡ length ordinates₀
+  records_long : length records ≡ length records₀
   cards-long : length cards ≡ length cards₀
 
 abbrev invariant-loop : tie.invariant-loop
@@ -32,7 +32,7 @@ loop-holds c =
     let p = c.before.before.before.before.before.before.before.before.before.requires in
     let f = c.before.before.first-state in
     let going = starts x.deck.now x.named x.place f.result x.work.now x.ordinates.now x.records.now f.new.0 f.ensures p.1.1 p.0.0 p.1.0.0 p.1.0.1 in
-    record { going = going; work-long = refl; ordinates-long = refl; records-long = refl; cards-long = refl }
+    record { going = going; work_long = refl; ordinates_long = refl; records_long = refl; cards-long = refl }
 
 step-requires : tie.Need-step-requires invariant-loop decreases-loop
 step-requires c κs = let i = c.before.before.before.before.loop.invariant in rw (i.ordinates-long, i.records-long) i.going
@@ -96,9 +96,9 @@ loop-again c =
     let t = turned p _ c.before.if1.false in
     record {
       going = t.0;
-      work-long = work-kept p;
-      ordinates-long = ordinates-kept p;
-      records-long = records-kept p;
+      work_long = work-kept p;
+      ordinates_long = ordinates-kept p;
+      records_long = records-kept p;
       cards-long = p.step.auto.1.1.1.1.1.1.1.0 ∙ p.before.before.before.before.before.loop.invariant.cards-long;
     }
 

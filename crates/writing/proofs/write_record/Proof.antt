@@ -6,14 +6,14 @@ use borrow.Author.Rules.{rules}
 use borrow.Author.Tests.{le-leb, lt-leb}
 use lib.ListN.{length}
 use Rattle.sequences.specs.Choices.{taken, passed}
-use Rattle.meaning.specs.Results.{recordSize}
+use Rattle.meaning.specs.Results.{record_size}
 use Rattle.writing.proofs.write_record.Statement.{statement}
 use Rattle.writing.proofs.write_record.Tie as tie
 
 returns : tie.Need-returns
 returns c =
     let x = c.before.before.args in
-    let none : length x.records.now < recordSize * x.k + recordSize = omega (arith, c.if1.true) in
+    let none : length x.records.now < record_size * x.k + record_size = omega (arith, c.if1.true) in
     passed _ (lt-leb _ _ none) refl
 
 part-record-at-end : tie.Need-slice-bounds-record-at-end
@@ -25,7 +25,7 @@ part-record-at-end c =
 returns-2 : tie.Need-returns-2
 returns-2 c =
     let x = c.before.before.before.before.before.before.before.before.before.before.args in
-    let room : recordSize * x.k + recordSize ≤ length x.records.now = omega (arith, c.before.before.before.before.before.before.before.before.if1.false) in
+    let room : record_size * x.k + record_size ≤ length x.records.now = omega (arith, c.before.before.before.before.before.before.before.before.if1.false) in
     let whole : x.name.letters - 0 ≡ x.name.letters = omega arith in
     taken _ (le-leb _ _ room) (c.before.before.record-at.ensures ∙ rw whole)
 

@@ -3,8 +3,8 @@ use Prim.Native.Nat.{ℕ}
 use mathlib.Core.Path.{◌≡◌, ap, ◌∙◌}
 use mathlib.Core.List.{List}
 use borrow.Author.Rules.{rules}
-use Rattle.blocks.specs.Meant.{nameIs}
-use Rattle.writing.specs.WrittenResult.{recordTold, recordPut, told-as}
+use Rattle.blocks.specs.Meant.{name_is}
+use Rattle.writing.specs.WrittenResult.{record_told, record_put, told_as}
 use Rattle.writing.proofs.write_result.Statement.{statement}
 use Rattle.writing.proofs.write_result.Tie as tie
 
@@ -14,10 +14,10 @@ returns c =
     let label = written.before.label_of.ensures in
     let x = written.before.before.before.before.before.before.args in
     let said = written.before.label_of.result in
-    let there : written.write-record.new.0 ≡ recordPut x.k (recordTold (nameIs x.name) said.ratio said.place x.closed) x.records.now =
+    let there : written.write-record.new.0 ≡ record_put x.k (record_told (name_is x.name) said.ratio said.place x.closed) x.records.now =
     written.write-record.ensures in
-    let record' : List ℕ → List ℕ = λ (bytes : List ℕ). recordPut x.k bytes x.records.now in
-    (c.before.before.copy-named.ensures, there ∙ ap record' (told-as (nameIs x.name) x.closed label.0 label.1))
+    let record' : List ℕ → List ℕ = λ (bytes : List ℕ). record_put x.k bytes x.records.now in
+    (c.before.before.copy-named.ensures, there ∙ ap record' (told_as (name_is x.name) x.closed label.0 label.1))
 
 pub write-result-spec : {M : Type 1} → statement M
 write-result-spec = tie.close (tie.spec (λ c κs. search rules) (λ c κs. search rules) (λ c κs. search rules) (λ c. search rules) (λ c. search rules) returns)

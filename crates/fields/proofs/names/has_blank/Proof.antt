@@ -3,13 +3,13 @@ use borrow.Author.Rules.{rules}
 use Prim.Native.Nat.{◌-◌}
 use mathlib.Core.Path.{◌≡◌, refl, sym, ◌∙◌}
 use lib.ListN.{length, drop}
-use Rattle.meaning.specs.Records.{anyBlank}
-use Rattle.fields.specs.NameLaws.{blank-here, blank-later, blank-nowhere}
+use Rattle.meaning.specs.Records.{any_blank}
+use Rattle.fields.specs.NameLaws.{blank-here, blank-later, blank_nowhere}
 use Rattle.fields.proofs.names.has_blank.Statement.{statement}
 use Rattle.fields.proofs.names.has_blank.Tie as tie
 
 abbrev invariant-loop : tie.invariant-loop
-invariant-loop name i₀ i = anyBlank (drop i name) ≡ anyBlank name
+invariant-loop name i₀ i = any_blank (drop i name) ≡ any_blank name
 
 abbrev decreases-loop : tie.decreases-loop
 decreases-loop name i₀ i = length name - i
@@ -24,7 +24,7 @@ loop-again : tie.Need-loop-preserved invariant-loop decreases-loop
 loop-again c = sym (blank-later c.before.before.before.before.args.name.now c.before.before.before.loop.i (search rules) c.if1.false) ∙ c.before.before.before.loop.invariant
 
 returns-2 : tie.Need-returns-2 invariant-loop decreases-loop
-returns-2 c = sym (blank-nowhere c.before.before.args.name.now c.before.loop.i (search rules)) ∙ c.before.loop.invariant
+returns-2 c = sym (blank_nowhere c.before.before.args.name.now c.before.loop.i (search rules)) ∙ c.before.loop.invariant
 
 pub has-blank-spec : {M : Type 1} → statement M
 has-blank-spec =

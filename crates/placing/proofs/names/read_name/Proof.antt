@@ -2,10 +2,10 @@
 use mathlib.Core.Path.{sym, ap, ◌∙◌}
 use mathlib.Core.Bool.{true≢false}
 use native.Mathlib.Omega.{arith}
-use Rattle.meaning.specs.Records.{badName}
+use Rattle.meaning.specs.Records.{bad_name}
 use Rattle.fields.specs.Spans.{form_of}
 use Rattle.fields.specs.NameLaws.{NameAt, name-found}
-use Rattle.placing.specs.Labels.{name-short}
+use Rattle.placing.specs.Labels.{name_short}
 use borrow.Author.Rules.{rules}
 use Rattle.placing.proofs.names.read_name.Statement.{statement}
 use Rattle.placing.proofs.names.read_name.Tie as tie
@@ -25,17 +25,17 @@ part-f-end c = let n = found c in omega arith
 returns : tie.Need-returns
 returns c =
     let n = found c.before.before.before.before in
-    record { bad = sym c.before.if1.true ∙ c.before.before.bad-name.ensures ∙ ap badName n.name; same = λ z. absurd (true≢false z); short = c.no_name.ensures.1 }
+    record { bad = sym c.before.if1.true ∙ c.before.before.bad-name.ensures ∙ ap bad_name n.name; same = λ z. absurd (true≢false z); short = c.no_name.ensures.1 }
 
 copy-name-requires : tie.Need-copy-name-requires
 copy-name-requires c κs =
     let f = c.before.before.f in
-    name-short _ (sym c.before.bad-name.ensures ∙ c.if1.false)
+    name_short _ (sym c.before.bad-name.ensures ∙ c.if1.false)
 
 returns-2 : tie.Need-returns-2
 returns-2 c =
     let n = found c.before.before.before.before in
-    record { bad = sym c.before.if1.false ∙ c.before.before.bad-name.ensures ∙ ap badName n.name; same = λ z. c.copy_name.ensures.0 ∙ n.name; short = c.copy_name.ensures.1 }
+    record { bad = sym c.before.if1.false ∙ c.before.before.bad-name.ensures ∙ ap bad_name n.name; same = λ z. c.copy_name.ensures.0 ∙ n.name; short = c.copy_name.ensures.1 }
 
 pub read-name-spec : {M : Type 1} → statement M
 read-name-spec =

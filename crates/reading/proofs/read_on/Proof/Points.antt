@@ -8,33 +8,33 @@ use native.Mathlib.Omega.{arith}
 use lib.ListN.{length, drop}
 use Rattle.sequences.specs.Parts.{part, length_part}
 use Rattle.meaning.specs.Lines.{lines_of}
-use Rattle.meaning.specs.Fields.{Form, fields_of, nameIn}
-use Rattle.meaning.specs.Records.{Item, anyField, anyFaulty}
+use Rattle.meaning.specs.Fields.{Form, fields_of, name_in}
+use Rattle.meaning.specs.Records.{Item, any_field, any_faulty}
 use Rattle.meaning.specs.Run as run
-use Rattle.meaning.specs.Run.{Refuse, Go, unless, readLine}
+use Rattle.meaning.specs.Run.{Refuse, Go, unless, read_line}
 use Rattle.lines.specs.First.{FairAt, fair-line}
-use Rattle.fields.specs.Spans.{form_of, firstPlace, Stands}
-use Rattle.records.specs.Rows.{fieldRow, rulesBy, spanIn, span-few}
-use Rattle.events.specs.NextEvent.{Found, Met, nextEvent}
+use Rattle.fields.specs.Spans.{form_of, first_place, Stands}
+use Rattle.records.specs.Rows.{field_row, rules_by, span_in, span_few}
+use Rattle.events.specs.NextEvent.{Found, Met, next_event}
 use Rattle.scanning.specs.declared.Scan.{Scan}
-use Rattle.scanning.specs.Pass.{scanFrom}
-use Rattle.scanning.specs.Scans.{scannedOf}
+use Rattle.scanning.specs.Pass.{scan_from}
+use Rattle.scanning.specs.Scans.{scanned_of}
 use Rattle.scanning.specs.WholeLine.{Fresh, LineRead}
-use Rattle.scanning.specs.FieldsLeft.{SpanTurn, span-turn, leftBy, leftFields, left-none, left-few}
+use Rattle.scanning.specs.FieldsLeft.{SpanTurn, span_turn, left_by, left_fields, left_none, left_few}
 use Rattle.blocks.specs.declared.Name.{Name}
 use Rattle.reading.specs.declared.Event as events
 use Rattle.reading.specs.declared.Event.TheVariants as event
 use Rattle.placing.specs.declared.Reading.{Reading}
-use Rattle.blocks.specs.Meant.{timeIs}
-use Rattle.placing.specs.Readings.{readingIs, Ready}
+use Rattle.blocks.specs.Meant.{time_is}
+use Rattle.placing.specs.Readings.{reading_is, Ready}
 use Rattle.taking.specs.declared.Read.{Read}
-use Rattle.placing.specs.Places.{Due, nameEvent, fieldsEvent}
+use Rattle.placing.specs.Places.{Due, name_event, fields_event}
 use Rattle.taking.specs.Taken.{Passed, LineTaken}
 use Rattle.sorting.specs.declared.Sorted.{Sorted}
 use Rattle.sorting.specs.Sorted.{SortedIs, known_as}
 use Rattle.sorting.specs.declared.Sorted.TheVariants as sorted
 use Rattle.reading.specs.Found.{Onward}
-use Rattle.reading.specs.AtLine.{AtLine, goes, refuses, pass-read, unless-met, unless-none}
+use Rattle.reading.specs.AtLine.{AtLine, goes, refuses, pass-read, unless-met, unless_none}
 use Rattle.reading.proofs.read_on.Tie as tie
 
 pub record Lines (s : List ℕ) (from before : ℕ) (cards₀ : List ℕ) (r₀ : Reading) (cards : List ℕ) (at n : ℕ) (r : Reading) (e : events.Event) (name : Name)
@@ -47,15 +47,15 @@ pub record Lines (s : List ℕ) (from before : ℕ) (cards₀ : List ℕ) (r₀ 
   pub long : length cards ≡ length cards₀
   pub ten : length values ≡ 10
   pub letters : name.letters ≤ 6
-  pub done : nextEvent (lines_of (drop at s)) (readingIs r cards) (n + 1) ≡ nextEvent (lines_of (drop from s)) (readingIs r₀ cards₀) (before + 1)
+  pub done : next_event (lines_of (drop at s)) (reading_is r cards) (n + 1) ≡ next_event (lines_of (drop from s)) (reading_is r₀ cards₀) (before + 1)
 
 pub record Fields (item : Item) (free : Bool) (named : ℕ) (l : List ℕ) (c₀ : ℕ) (values₀ : List ℕ) (scan₀ : Scan) (values : List ℕ) (c i : ℕ) (scan : Scan) : Type 0 where
   pub ten : length values ≡ 10
   pub stands : Stands (form_of free) l i c
   pub near : i ≤ c + 10
-  pub faults : anyFaulty (rulesBy item) i (leftFields (form_of free) named i c l) ≡ anyFaulty (rulesBy item) 0 (leftFields (form_of free) named 0 c₀ l)
-  pub scans : scanFrom (rulesBy item) i (leftFields (form_of free) named i c l) (scannedOf values scan)
-      ≡ scanFrom (rulesBy item) 0 (leftFields (form_of free) named 0 c₀ l) (scannedOf values₀ scan₀)
+  pub faults : any_faulty (rules_by item) i (left_fields (form_of free) named i c l) ≡ any_faulty (rules_by item) 0 (left_fields (form_of free) named 0 c₀ l)
+  pub scans : scan_from (rules_by item) i (left_fields (form_of free) named i c l) (scanned_of values scan)
+      ≡ scan_from (rules_by item) 0 (left_fields (form_of free) named 0 c₀ l) (scanned_of values₀ scan₀)
 
 abbrev pub Inv-loop : tie.invariant-loop
 Inv-loop s from before cards₀ at n r₀ event₀ name values₀ begin end fair l item free named c₀ i₀ scan₀ cards r event values c i scan =
@@ -101,10 +101,10 @@ abbrev pub text : Fair → List ℕ
 text c = part (at-line c).line.at (end c - (at-line c).line.at) (deck c)
 
 abbrev pub stood : Fair → run.Reading
-stood c = readingIs (at-line c).line.r (at-line c).line.cards
+stood c = reading_is (at-line c).line.r (at-line c).line.cards
 
 abbrev pub sought : Fair → Found
-sought c = nextEvent (lines_of (drop (begin c).args.from (deck c))) (readingIs (begin c).args.start (begin c).args.cards.now) ((begin c).args.before + 1)
+sought c = next_event (lines_of (drop (begin c).args.from (deck c))) (reading_is (begin c).args.start (begin c).args.cards.now) ((begin c).args.before + 1)
 
 abbrev pub item-at : Listing → Item
 item-at c = c.before.item.given.0.0
@@ -127,7 +127,7 @@ short c =
 -- the next line's turn
 pub moved : (c : Fair) (r : Reading) (cards values : List ℕ) (e : events.Event) → Ready r cards
     → length cards ≡ length (at-line c).line.cards → e ≡ event.Missing → length values ≡ 10
-    → nextEvent (lines_of (drop (next c) (deck c))) (readingIs r cards) ((at-line c).line.n + 1 + 1) ≡ sought c
+    → next_event (lines_of (drop (next c) (deck c))) (reading_is r cards) ((at-line c).line.n + 1 + 1) ≡ sought c
     → Lines (deck c) (begin c).args.from (begin c).args.before (begin c).args.cards.now (begin c).args.start cards (next c) ((at-line c).line.n + 1) r e (at-line c).line.name values
 moved c r cards values e ready long waiting ten done =
     let o = (at-line c).line.invariant in
@@ -145,7 +145,7 @@ moved c r cards values e ready long waiting ten done =
     }
 
 -- a line that is refused, and one behind which the reading may go on
-pub refused : (c : Fair) (number : ℕ) → readLine (stood c) (text c) ≡ Refuse number
+pub refused : (c : Fair) (number : ℕ) → read_line (stood c) (text c) ≡ Refuse number
     → (q : run.Reading) × (later : List (List ℕ)) × (sought c ≡ Met (Refuse number) q ((at-line c).line.n + 1) later)
 refused c number e = (_, _, refuses (turn c) number e)
 
@@ -168,25 +168,25 @@ abbrev pub line-named : tie.After-read-name Inv-loop μ-loop Inv-line μ-line �
 line-named c = c.before.before.before.before.before.before
 
 pub named : (c : tie.After-read-name Inv-loop μ-loop Inv-line μ-line)
-    → readLine (stood (line-named c)) (text (line-named c)) ≡ nameEvent (stood (line-named c)) (nameIn (form-at (line-named c)) (text (line-named c)))
+    → read_line (stood (line-named c)) (text (line-named c)) ≡ name_event (stood (line-named c)) (name_in (form-at (line-named c)) (text (line-named c)))
 named c = (does c.before.before.before sorted.Named c.before.enum_told.given.1).event
 
 -- with fields, which are due where the reading stands
 abbrev pub line-of : Listing → Fair
 line-of c = c.before.before.before.before.before.before
 
-sorted-so : (c : Listing) → SortedIs (sorted.Fields (item-at c)) (at-line (line-of c)).line.r (at-line (line-of c)).line.cards (text (line-of c))
-sorted-so c = does c.before.before.before _ c.before.item.given.1
+sorted_so : (c : Listing) → SortedIs (sorted.Fields (item-at c)) (at-line (line-of c)).line.r (at-line (line-of c)).line.cards (text (line-of c))
+sorted_so c = does c.before.before.before _ c.before.item.given.1
 
-pub due : (c : Listing) → Due (at-line (line-of c)).line.r.phase (timeIs (at-line (line-of c)).line.r.time) (item-at c) (at-line (line-of c)).line.cards
-due c = (sorted-so c).onward
+pub due : (c : Listing) → Due (at-line (line-of c)).line.r.phase (time_is (at-line (line-of c)).line.r.time) (item-at c) (at-line (line-of c)).line.cards
+due c = (sorted_so c).onward
 
-pub did : (c : Listing) → readLine (stood (line-of c)) (text (line-of c)) ≡ fieldsEvent (item-at c) (stood (line-of c)) (fields_of (form-at (line-of c)) (text (line-of c)))
-did c = (sorted-so c).event
+pub did : (c : Listing) → read_line (stood (line-of c)) (text (line-of c)) ≡ fields_event (item-at c) (stood (line-of c)) (fields_of (form-at (line-of c)) (text (line-of c)))
+did c = (sorted_so c).event
 
 -- all its fields, as the pass begins
 abbrev pub all-fields : Listing → List (List ℕ)
-all-fields c = leftFields (form-at (line-of c)) (spanIn (fieldRow (item-at c)) 0) 0 (firstPlace (form-at (line-of c)) (text (line-of c))) (text (line-of c))
+all-fields c = left_fields (form-at (line-of c)) (span_in (field_row (item-at c)) 0) 0 (first_place (form-at (line-of c)) (text (line-of c))) (text (line-of c))
 
 -- A FIELD IS LEFT
 abbrev pub Left : Type 0
@@ -195,24 +195,24 @@ Left = tie.Then3 Inv-loop μ-loop Inv-line μ-line
 abbrev pub begun : Left → Listing
 begun c = c.before.before.before.before.before
 
-pub more : (c : Left) → leftBy (length (text (line-of (begun c)))) c.before.before.loop.c c.before.before.loop.i c.before.before.before.before.named-fields.result ≡ true
+pub more : (c : Left) → left_by (length (text (line-of (begun c)))) c.before.before.loop.c c.before.before.loop.i c.before.before.before.before.named-fields.result ≡ true
 more c = sym c.before.is-left.ensures ∙ c.if3.true
 
 pub few : (c : Left) → c.before.before.before.before.named-fields.result ≤ 10
-few c = rw c.before.before.before.before.named-fields.ensures (span-few (item-at (begun c)) 0 zero-le)
+few c = rw c.before.before.before.before.named-fields.ensures (span_few (item-at (begun c)) 0 zero-le)
 
 pub small : (c : Left) → c.before.before.loop.i ≤ 90
 small c =
     let l = c.before.before.loop in
     let at = line-of (begun c) in
-    left-few (length (text at)) l.c l.i c.before.before.before.before.named-fields.result (short at) l.invariant.3.near (few c) (more c)
+    left_few (length (text at)) l.c l.i c.before.before.before.before.named-fields.result (short at) l.invariant.3.near (few c) (more c)
 
 pub spanned : (c : tie.After-next-span Inv-loop μ-loop Inv-line μ-line)
     → SpanTurn (form-at (line-of (begun c.before))) (text (line-of (begun c.before))) c.before.before.before.loop.i c.before.before.before.loop.c c.next-span.result
 spanned c =
     let p = line-of (begun c.before) in
     let l = c.before.before.before.loop in
-    span-turn (form-at p) (text p) l.i l.c c.next-span.result (short p) l.invariant.3.stands c.next-span.ensures
+    span_turn (form-at p) (text p) l.i l.c c.next-span.result (short p) l.invariant.3.stands c.next-span.ensures
 
 -- NONE IS LEFT: the pass has read the line
 abbrev pub None : Type 0
@@ -222,64 +222,64 @@ abbrev pub ended : None → Listing
 ended c = c.before.before.before.before.before
 
 pub none_left : (c : None)
-    → leftFields (form-at (line-of (ended c))) c.before.before.before.before.named-fields.result c.before.before.loop.i c.before.before.loop.c (text (line-of (ended c))) ≡ []
+    → left_fields (form-at (line-of (ended c))) c.before.before.before.before.named-fields.result c.before.before.loop.i c.before.before.loop.c (text (line-of (ended c))) ≡ []
 none_left c =
     let l = c.before.before.loop in
     let at = line-of (ended c) in
-    left-none (form-at at) c.before.before.before.before.named-fields.result (text at) l.i l.c l.invariant.3.stands (sym c.before.is-left.ensures ∙ c.if3.false)
+    left_none (form-at at) c.before.before.before.before.named-fields.result (text at) l.i l.c l.invariant.3.stands (sym c.before.is-left.ensures ∙ c.if3.false)
 
 pub read : (c : None)
-    → LineRead (fieldRow (item-at (ended c))) (fields_of (form-at (line-of (ended c))) (text (line-of (ended c)))) (scannedOf c.before.before.loop.values c.before.before.loop.scan)
-unfolding anyField scanFrom
+    → LineRead (field_row (item-at (ended c))) (fields_of (form-at (line-of (ended c))) (text (line-of (ended c)))) (scanned_of c.before.before.loop.values c.before.before.loop.scan)
+unfolding any_field scan_from
 read c =
     let v = c.before.before.loop.invariant.3 in
-    let rules = rulesBy (item-at (ended c)) in
-    let start = scannedOf (at-line (line-of (ended c))).line.values (record { count = 0; outside = false }) in
-    let faults : false ≡ anyFaulty rules 0 (all-fields (ended c)) =
+    let rules = rules_by (item-at (ended c)) in
+    let start = scanned_of (at-line (line-of (ended c))).line.values (record { count = 0; outside = false }) in
+    let faults : false ≡ any_faulty rules 0 (all-fields (ended c)) =
     rw (none_left c, c.before.before.before.before.named-fields.ensures, c.before.before.before.first-place.ensures) at v.faults in
-    let scans : scannedOf c.before.before.loop.values c.before.before.loop.scan ≡ scanFrom rules 0 (all-fields (ended c)) start =
+    let scans : scanned_of c.before.before.loop.values c.before.before.loop.scan ≡ scan_from rules 0 (all-fields (ended c)) start =
     rw (none_left c, c.before.before.before.before.named-fields.ensures, c.before.before.before.first-place.ensures) at v.scans in
     let at = line-of (ended c) in
     let fresh : Fresh start = record { none = refl; inside = refl; ten = (at-line at).line.inv.ten } in
     rw scans (pass-read (item-at (ended c)) (form-at at) (text at) start fresh (sym faults))
 
-pub passed : (c : None) → Passed (item-at (ended c)) (scannedOf c.before.before.loop.values c.before.before.loop.scan)
+pub passed : (c : None) → Passed (item-at (ended c)) (scanned_of c.before.before.loop.values c.before.before.loop.scan)
 passed c = record { fields = _; read = read c }
 
 -- the reading and the words are those where the line began
 pub ready_at : (c : None) → Ready c.before.before.loop.r c.before.before.loop.cards
 ready_at c = let v = c.before.before.loop.invariant in rw (v.1, v.0) (at-line (line-of (ended c))).line.inv.ready
 
-due-same : {r r₀ : Reading} {w w₀ : List ℕ} (item : Item) → r ≡ r₀ → w ≡ w₀ → Due r₀.phase (timeIs r₀.time) item w₀ → Due r.phase (timeIs r.time) item w
-due-same item e₁ e₂ h = rw (e₁, e₂) h
+due_same : {r r₀ : Reading} {w w₀ : List ℕ} (item : Item) → r ≡ r₀ → w ≡ w₀ → Due r₀.phase (time_is r₀.time) item w₀ → Due r.phase (time_is r.time) item w
+due_same item e₁ e₂ h = rw (e₁, e₂) h
 
-pub due-at : (c : None) → Due c.before.before.loop.r.phase (timeIs c.before.before.loop.r.time) (item-at (ended c)) c.before.before.loop.cards
-due-at c = let v = c.before.before.loop.invariant in due-same (item-at (ended c)) v.1 v.0 (due (ended c))
+pub due_at : (c : None) → Due c.before.before.loop.r.phase (time_is c.before.before.loop.r.time) (item-at (ended c)) c.before.before.loop.cards
+due_at c = let v = c.before.before.loop.invariant in due_same (item-at (ended c)) v.1 v.0 (due (ended c))
 
 -- THE LINE TAKEN: it is refused, or the next line's turn follows
 abbrev pub TakenAt : None → Read → List ℕ → Type 0
 TakenAt c x cards =
-    LineTaken c.before.before.loop.r (item-at (ended c)) (scannedOf c.before.before.loop.values c.before.before.loop.scan) x c.before.before.loop.cards cards
+    LineTaken c.before.before.loop.r (item-at (ended c)) (scanned_of c.before.before.loop.values c.before.before.loop.scan) x c.before.before.loop.cards cards
 
 -- what taking it does, seen from where the line began
 taken : (c : None) (x : Read) (cards : List ℕ) → TakenAt c x cards
-    → readLine (stood (line-of (ended c))) (text (line-of (ended c))) ≡ unless x.refusal (Go (readingIs x.reading cards))
+    → read_line (stood (line-of (ended c))) (text (line-of (ended c))) ≡ unless x.refusal (Go (reading_is x.reading cards))
 taken c x cards t =
     let v = c.before.before.loop.invariant in
     let fs = fields_of (form-at (line-of (ended c))) (text (line-of (ended c))) in
     did (ended c)
-    ∙ sym (t.event fs (read c) ∙ ap (λ (q : Reading). fieldsEvent (item-at (ended c)) (readingIs q c.before.before.loop.cards) fs) v.1
-    ∙ ap (λ (w : List ℕ). fieldsEvent (item-at (ended c)) (readingIs (at-line (line-of (ended c))).line.r w) fs) v.0)
+    ∙ sym (t.event fs (read c) ∙ ap (λ (q : Reading). fields_event (item-at (ended c)) (reading_is q c.before.before.loop.cards) fs) v.1
+    ∙ ap (λ (w : List ℕ). fields_event (item-at (ended c)) (reading_is (at-line (line-of (ended c))).line.r w) fs) v.0)
 
 pub line_refused : (c : None) (x : Read) (cards : List ℕ) → TakenAt c x cards → (x.refusal ≡ 0 → ⊥)
     → (q : run.Reading) × (later : List (List ℕ)) × (sought (line-of (ended c)) ≡ Met (Refuse x.refusal) q ((at-line (line-of (ended c))).line.n + 1) later)
 line_refused c x cards t some = refused (line-of (ended c)) _ (taken c x cards t ∙ unless-met _ _ some)
 
-pub line-moved : (c : None) (x : Read) (cards : List ℕ) → TakenAt c x cards → x.refusal ≡ 0 → length cards ≡ length c.before.before.loop.cards
+pub line_moved : (c : None) (x : Read) (cards : List ℕ) → TakenAt c x cards → x.refusal ≡ 0 → length cards ≡ length c.before.before.loop.cards
     → Lines (deck (line-of (ended c))) (begin (line-of (ended c))).args.from (begin (line-of (ended c))).args.before (begin (line-of (ended c))).args.cards.now
     (begin (line-of (ended c))).args.start cards (next (line-of (ended c))) ((at-line (line-of (ended c))).line.n + 1) x.reading c.before.before.loop.event
     (at-line (line-of (ended c))).line.name c.before.before.loop.values
-line-moved c x cards t none long =
+line_moved c x cards t none long =
     let at = line-of (ended c) in
     let v = c.before.before.loop.invariant in
-    moved at x.reading cards _ _ (t.ready none) (long ∙ ap length v.0) (v.2 ∙ (at-line at).line.inv.waiting) v.3.ten (goes (turn at) _ (taken c x cards t ∙ unless-none _ _ none))
+    moved at x.reading cards _ _ (t.ready none) (long ∙ ap length v.0) (v.2 ∙ (at-line at).line.inv.waiting) v.3.ten (goes (turn at) _ (taken c x cards t ∙ unless_none _ _ none))

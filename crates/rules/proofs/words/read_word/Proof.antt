@@ -6,7 +6,7 @@ use native.Mathlib.Numerals.{add-one}
 use native.Mathlib.Omega.{arith}
 use lib.ListN.{length, drop, get_or}
 use Rattle.slices.specs.Bytes.{few_bytes, byte_more}
-use Rattle.rules.specs.Words.{spelled, spelled-more, spelled-blank, spelled-end, too_long, fits}
+use Rattle.rules.specs.Words.{spelled, spelled_more, spelled-blank, spelled-end, too_long, fits}
 use Rattle.rules.proofs.words.read_word.Statement.{statement}
 use Rattle.rules.proofs.words.read_word.Tie as tie
 
@@ -47,7 +47,7 @@ loop-again c =
       search rules,
       l.invariant.1,
       omega arith,
-      spelled-more s l.i l.v (search rules) _ (omega arith) (λ z. omega (arith, c.if2.false)) ∙ l.invariant.3,
+      spelled_more s l.i l.v (search rules) _ (omega arith) (λ z. omega (arith, c.if2.false)) ∙ l.invariant.3,
     )
 
 returns-3 : tie.Need-returns-3 invariant-loop decreases-loop
