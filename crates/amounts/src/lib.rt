@@ -7,7 +7,7 @@ ghost use Rattle.amounts.specs.Values.{value_is};
 use numbers::Number;
 
 // A number in units of the last place that its field allows.
-#[derive(Drop)]
+#[derive(Clone, Copy)]
 pub enum Value {
     Malformed,
     Negative,

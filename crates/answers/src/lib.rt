@@ -10,7 +10,7 @@ pub const WORK: usize = 6_000;
 const DECK: usize = 60_000;
 
 // The answer to a deck: the ordinates of each hydrograph, the blocks and the ratios, or the number and the line of the refusal.
-#[derive(Drop)]
+#[derive(Clone, Copy)]
 pub enum Answer {
     Accepted(usize, usize, usize),
     Refused(u64, u64),

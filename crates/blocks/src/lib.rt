@@ -10,14 +10,14 @@ ghost use Rattle.blocks.specs.Cards.{head_in, count_by, block_of, Counted, Reada
 ghost use Rattle.records.specs.Rows.{items, span_in, words_of};
 
 // The ratios that JR lists, in hundredths, of which the first `count` count; none where there is no JR.
-#[derive(Drop)]
+#[derive(Clone, Copy)]
 pub struct Ratios {
     pub values: [u64; 9],
     pub count: usize,
 }
 
 // The time control: minutes of an interval, how many ordinates, the ratio in force, in hundredths, and those that are listed.
-#[derive(Drop)]
+#[derive(Clone, Copy)]
 pub struct Time {
     pub minutes: u64,
     pub ordinates: usize,
@@ -60,7 +60,7 @@ pub fn under(time: Time, ratio: u64) -> Time
 }
 
 // A block's name: its bytes, of which the first `letters` count.
-#[derive(Drop)]
+#[derive(Clone, Copy)]
 pub struct Name {
     pub bytes: [u8; 6],
     pub letters: usize,

@@ -12,32 +12,33 @@ fn put_listing(deck: &[u8], out: &mut [u8]) -> usize
     ensures { result ≤ length out.new }
 {
     let end = listing::list_deck(deck, &mut out[0..listing::LISTING]);
-    end + bytes::copy(b"--\n", &mut out[end..])
+    out[end..end + 3].copy_from_slice(b"--\n");
+    end + 3
 }
 
 // Answers whether the listing was written.
-fn print_listing(deck: &[u8]) -> bool {
+fn print_listing(rt: &HostRuntime, deck: &[u8]) -> bool {
     let mut out = [0u8; ANSWER];
     let end = put_listing(deck, &mut out);
-    streams::print(&out[..end])
+    streams::print(rt, &out[..end])
 }
 
 // The next deck, from the length in front of it. Answers whether there was one and its listing was written.
-fn answer_next(deck: &mut [u8]) -> bool {
-    match streams::next_deck(deck) {
-        Next::Number(kept) => print_listing(&deck[..kept]),
+fn answer_next(rt: &HostRuntime, deck: &mut [u8]) -> bool {
+    match streams::next_deck(rt, deck) {
+        Next::Number(kept) => print_listing(rt, &deck[..kept]),
         other => {
-            streams::explain(other);
+            streams::explain(rt, other);
             false
         }
     }
 }
 
 // A proved loop has to end, and nothing says that the input does: no run uses up the turns.
-fn main() {
+fn main(rt: HostRuntime) {
     let mut deck = [0u8; streams::DECK];
     let mut turns = u64::MAX;
-    while 0 < turns && answer_next(&mut deck) {
+    while 0 < turns && answer_next(&rt, &mut deck) {
         turns -= 1;
     }
 }

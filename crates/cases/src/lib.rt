@@ -21,7 +21,7 @@ pub const RECORDS: usize = 72_000;
 pub const TEXT: usize = 63 + (21 * ORDINATES + 1) + (2 * RECORDS + 1) + 24;
 
 // What a case says before its deck: the block and the ratio that are named, the words, ordinates and bytes that are lent, and the deck's length.
-#[derive(Drop)]
+#[derive(Clone, Copy)]
 pub struct Case {
     pub named: usize,
     pub ratio: usize,

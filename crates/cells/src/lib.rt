@@ -11,7 +11,7 @@ ghost use Rattle.cells.specs.Cells.{measure_is, cell, figure_text, depths_text, 
 pub const CELL: usize = 28;
 
 // Depth and flow units, exact; or inches and cfs to six places, half up.
-#[derive(Drop)]
+#[derive(Clone, Copy)]
 pub enum Measure {
     Units,
     Customary,

@@ -10,7 +10,7 @@ use blocks::Ratios;
 use rounds::Wanted;
 
 // The answer, and the ratios that the deck lists where it is sound.
-#[derive(Drop)]
+#[derive(Clone, Copy)]
 pub struct Ran {
     pub answer: Answer,
     pub ratios: Ratios,

@@ -1,1 +1,3 @@
 // Laws of reading on from one event of a deck to the next; no code.
+
+#![tactic(auto)]

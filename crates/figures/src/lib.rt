@@ -13,7 +13,7 @@ fn round_flow(flow: u64) -> u64
 }
 
 // The numbers of a line: area and peak in hundredths.
-#[derive(Drop)]
+#[derive(Clone, Copy)]
 struct Figures {
     pub kind: u64,
     pub area: u64,

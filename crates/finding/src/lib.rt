@@ -12,7 +12,7 @@ use placing::{Phase, Reading};
 use reading::Event;
 
 // Whether the block is there and was closed; if so, the time control and its name. Its values are in the cards.
-#[derive(Drop)]
+#[derive(Clone, Copy)]
 pub struct Found {
     pub there: bool,
     pub time: Time,

@@ -1,1 +1,3 @@
 // Laws of decks that were accepted before request 7: their answers stay; no code.
+
+#![tactic(auto)]

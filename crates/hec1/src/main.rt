@@ -1,14 +1,14 @@
 // A deck from standard input, its listing to standard output.
 use streams::Next;
 
-fn main() {
+fn main(rt: HostRuntime) {
     let mut deck = [0u8; streams::DECK];
-    let got = streams::read_all(&mut deck);
+    let got = streams::read_all(&rt, &mut deck);
     if got.failed {
-        streams::explain(Next::Failed);
+        streams::explain(&rt, Next::Failed);
         return;
     }
     let mut out = [0u8; listing::LISTING];
     let length = listing::list_deck(&deck[..got.count], &mut out);
-    streams::print(&out[..length]);
+    streams::print(&rt, &out[..length]);
 }

@@ -6,27 +6,33 @@ ghost use Rattle.graphing.specs.Sizes.{hydrograph_size};
 use streams::{Asked, Next};
 
 // Answers whether the hydrograph and the line behind it were written.
-fn print_hydrograph(deck: &[u8], named: usize, ratio: usize, out: &mut [u8]) -> bool
+fn print_hydrograph(
+    rt: &HostRuntime,
+    deck: &[u8],
+    named: usize,
+    ratio: usize,
+    out: &mut [u8],
+) -> bool
     requires { hydrograph_size ≤ length out.old }
 {
     let end = graphing::hydrograph_deck(deck, named, ratio, out);
-    if streams::print(&out[..end]) {
-        return streams::print(b"--\n");
+    if streams::print(rt, &out[..end]) {
+        return streams::print(rt, b"--\n");
     }
     false
 }
 
 // Answers whether there was a whole case and its hydrograph was written.
-fn answer_next(deck: &mut [u8], out: &mut [u8]) -> bool
+fn answer_next(rt: &HostRuntime, deck: &mut [u8], out: &mut [u8]) -> bool
     requires { hydrograph_size ≤ length out.old }
 {
-    let Asked::Block(case) = streams::next_case() else {
+    let Asked::Block(case) = streams::next_case(rt) else {
         return false;
     };
-    match streams::read_deck(deck, case.size) {
-        Next::Number(kept) => print_hydrograph(&deck[..kept], case.named, case.ratio, out),
+    match streams::read_deck(rt, deck, case.size) {
+        Next::Number(kept) => print_hydrograph(rt, &deck[..kept], case.named, case.ratio, out),
         none => {
-            streams::explain(none);
+            streams::explain(rt, none);
             false
         }
     }
@@ -38,11 +44,11 @@ fn blank_text() -> [u8; graphing::HYDROGRAPH] {
 }
 
 // A proved loop has to end, and nothing says that the input does: no run uses up the turns.
-fn main() {
+fn main(rt: HostRuntime) {
     let mut deck = [0u8; streams::DECK];
     let mut out = blank_text();
     let mut turns = u64::MAX;
-    while 0 < turns && answer_next(&mut deck, &mut out) {
+    while 0 < turns && answer_next(&rt, &mut deck, &mut out) {
         turns -= 1;
     }
 }

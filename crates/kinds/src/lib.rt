@@ -7,7 +7,7 @@ ghost use Rattle.kinds.specs.Masks.{bit_of, mask_of};
 ghost use Rattle.kinds.specs.Kinds.{kind_meant};
 
 // The kinds of a block, or none.
-#[derive(Drop)]
+#[derive(Clone, Copy)]
 pub enum Kind {
     NoKind,
     Basin,

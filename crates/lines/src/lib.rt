@@ -1,11 +1,13 @@
 // A deck's bytes, line by line. Refusal 3 and the line's end are found in one run over the line: it goes on while bytes are plain, and the byte at
 // which it stops says what the line is.
+#![tactic(auto)]
+
 ghost use Rattle.std.specs.Prelude.{◌≡◌, ◌+◌, ◌<◌, length, drop};
 ghost use Rattle.sequences.specs.Runs.{run};
 ghost use Rattle.lines.specs.Line.{is_plain, line_at};
 
 // A line's bytes end at `end`, and the next line starts at `next`. Where it is not fair it meets refusal 3, and `end` is where its plain bytes stop.
-#[derive(Drop)]
+#[derive(Clone, Copy)]
 pub struct Line {
     pub end: usize,
     pub next: usize,

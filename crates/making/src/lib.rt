@@ -130,7 +130,7 @@ fn make_pond(work: &mut [u64], held: Stack, time: Time, cards: &[u64]) -> bool
 }
 
 // What is held then, and whether a pool rose above the last row of its table.
-#[derive(Drop)]
+#[derive(Clone, Copy)]
 pub struct Made {
     pub held: Stack,
     pub overtopped: bool,

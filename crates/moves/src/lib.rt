@@ -17,7 +17,7 @@ pub const FILE: usize = 80_000;
 pub const TEXT: usize = 29 + (2 * ROOM + 1) + 3;
 
 // What a case says before its file: 0 for a move to the new form and 1 for one to the old, the bytes that are lent, and the file's length.
-#[derive(Drop)]
+#[derive(Clone, Copy)]
 pub struct Case {
     pub direction: usize,
     pub room: usize,

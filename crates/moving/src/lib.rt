@@ -12,7 +12,7 @@ ghost use Rattle.moving.specs.Ways.{refusal_of};
 use results::{OLD, RECORD};
 
 // What became of a file: how many bytes were moved, or the number of the refusal.
-#[derive(Drop)]
+#[derive(Clone, Copy)]
 pub enum Move {
     Moved(usize),
     Refused(u64),

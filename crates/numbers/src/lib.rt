@@ -1,19 +1,21 @@
 // Numbers as fields hold them: an optional sign, a run of digits, an optional point and a second run. What is read is the value and the places left
 // after trailing zeros of the fraction are taken off; how many places a field allows is not told here.
+#![tactic(auto)]
+
 ghost use Rattle.std.specs.Prelude.{◌≡◌, ◌^◌, ◌≤◌, ◌<◌, length};
 ghost use Rattle.meaning.specs.Fields.{trim_end};
 ghost use Rattle.meaning.specs.Numbers.{is_zero, number_of, decimal_of};
 ghost use Rattle.numbers.specs.Reading.{number_is, sign_length, digits_from, counted};
 
 // Nothing that is a number; or whether below 0, the digits that are left and how many of them stand behind the point.
-#[derive(Drop)]
+#[derive(Clone, Copy)]
 pub enum Number {
     NoNumber,
     Decimal(bool, u64, u64),
 }
 
 // A run of digits: where it ends, and the number that it reads on to.
-#[derive(Drop)]
+#[derive(Clone, Copy)]
 pub struct Digits {
     pub end: usize,
     pub value: u64,

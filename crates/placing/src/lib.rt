@@ -12,7 +12,7 @@ pub use names::{no_name, read_name};
 pub use places::place_record;
 
 // Where the reading stands: before IT; after IT, before the first KK; in a block.
-#[derive(Drop)]
+#[derive(Clone, Copy)]
 pub enum Phase {
     BeforeTime,
     BeforeBlocks,
@@ -20,7 +20,7 @@ pub enum Phase {
 }
 
 // Where the reading stands, the form in force, the time control and the open block's name. The block's values stand in the words that are lent.
-#[derive(Drop)]
+#[derive(Clone, Copy)]
 pub struct Reading {
     pub phase: Phase,
     pub free: bool,
@@ -63,7 +63,7 @@ pub fn open_block(r: Reading, name: Name, cards: &mut [u64]) -> Reading
 }
 
 // What a record does where the reading stands: it is out of place; the reading goes on in that form; it names a block; it ends the deck; it has fields.
-#[derive(Drop)]
+#[derive(Clone, Copy)]
 pub enum Placed {
     Misplaced,
     Passed(bool),
@@ -73,7 +73,7 @@ pub enum Placed {
 }
 
 // The name that a KK line gives, and whether it is none.
-#[derive(Drop)]
+#[derive(Clone, Copy)]
 pub struct Label {
     pub bad: bool,
     pub name: Name,

@@ -23,7 +23,8 @@ fn copy_name(f: &[u8]) -> Name
     ensures { (name_is result ≡ f.now) × (result.letters ≤ 6) }
 {
     let mut bytes = [0u8; 6];
-    let letters = bytes::copy(f, &mut bytes);
+    let letters = f.len();
+    bytes[..letters].copy_from_slice(f);
     Name {
         bytes: bytes,
         letters: letters,

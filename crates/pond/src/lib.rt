@@ -73,7 +73,7 @@ pub fn table_breaks(m: u64, svs: &[u64], sqs: &[u64]) -> bool
 
 // SPANS. A row and the next one, kept while W stays between them: the row's place, W of both (`low`, `high`), the row's Q (`out`), and by how much Q and W rise. Rows are multiples
 // of 600,000, and `more` and `rise` are cut by it: so the outflow asks for no product above 64 bits.
-#[derive(Drop)]
+#[derive(Clone, Copy)]
 struct Span {
     row: usize,
     low: u64,

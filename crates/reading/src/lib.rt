@@ -9,7 +9,7 @@ use scanning::Scan;
 use sorting::Sorted;
 
 // What reading on has come to: a line refused, a block opened, the deck ended; or no line is left.
-#[derive(Drop)]
+#[derive(Clone, Copy)]
 pub enum Event {
     Refused(u64),
     Opened,
@@ -18,7 +18,7 @@ pub enum Event {
 }
 
 // The event, where the reading stood before its line, the name of a block that is opened, the place behind the line and the line's number.
-#[derive(Drop)]
+#[derive(Clone, Copy)]
 pub struct Got {
     pub event: Event,
     pub reading: Reading,

@@ -6,6 +6,7 @@ use cases::Case;
 use streams::Next;
 
 fn run_case(
+    rt: &HostRuntime,
     deck: &[u8],
     named: usize,
     ratio: usize,
@@ -18,10 +19,10 @@ fn run_case(
     let answer = engine::run(deck, named, ratio, work, ordinates, records);
     let mut out = [0u8; cases::TEXT];
     let n = cases::write_case(&mut out, answer, work, ordinates, records);
-    streams::print(&out[..n]);
+    streams::print(rt, &out[..n]);
 }
 
-fn lend(deck: &[u8], case: Case)
+fn lend(rt: &HostRuntime, deck: &[u8], case: Case)
     requires { (case.work ≤ 12_000) × (case.ordinates ≤ 600) × (case.records ≤ 72_000) }
 {
     let w = case.work;
@@ -31,6 +32,7 @@ fn lend(deck: &[u8], case: Case)
     let mut ordinates = [1u64; cases::ORDINATES];
     let mut records = [1u8; cases::RECORDS];
     run_case(
+        rt,
         deck,
         case.named,
         case.ratio,
@@ -40,26 +42,26 @@ fn lend(deck: &[u8], case: Case)
     );
 }
 
-#[derive(Drop)]
+#[derive(Clone, Copy)]
 enum Asked {
     Run(Case),
     Nothing,
 }
 
-fn next_case() -> Asked {
+fn next_case(rt: &HostRuntime) -> Asked {
     let mut b = [0u8; 24];
-    match streams::fill(&mut b) {
+    match streams::fill(rt, &mut b) {
         Next::Number(_) => Asked::Run(cases::read_case(&b)),
         none => {
-            streams::explain(none);
+            streams::explain(rt, none);
             Asked::Nothing
         }
     }
 }
 
 // Answers whether there was a whole case that asks no more than can be lent.
-fn answer_next(deck: &mut [u8]) -> bool {
-    let Asked::Run(case) = next_case() else {
+fn answer_next(rt: &HostRuntime, deck: &mut [u8]) -> bool {
+    let Asked::Run(case) = next_case(rt) else {
         return false;
     };
     if cases::WORK < case.work {
@@ -71,23 +73,23 @@ fn answer_next(deck: &mut [u8]) -> bool {
     if cases::RECORDS < case.records {
         return false;
     }
-    match streams::read_deck(deck, case.size) {
+    match streams::read_deck(rt, deck, case.size) {
         Next::Number(kept) => {
-            lend(&deck[..kept], case);
+            lend(rt, &deck[..kept], case);
             true
         }
         none => {
-            streams::explain(none);
+            streams::explain(rt, none);
             false
         }
     }
 }
 
 // A proved loop has to end, and nothing says that the input does: no run uses up the turns.
-fn main() {
+fn main(rt: HostRuntime) {
     let mut deck = [0u8; streams::DECK];
     let mut turns = u64::MAX;
-    while 0 < turns && answer_next(&mut deck) {
+    while 0 < turns && answer_next(&rt, &mut deck) {
         turns -= 1;
     }
 }

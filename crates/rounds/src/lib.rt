@@ -11,7 +11,7 @@ use turns::Worked;
 use walking::Walked;
 
 // What the ordinates are wanted of: a block and a ratio, each by its number from 1; 0 stands for the last.
-#[derive(Drop)]
+#[derive(Clone, Copy)]
 pub struct Wanted {
     pub block: usize,
     pub ratio: usize,

@@ -11,7 +11,7 @@ use amounts::Value;
 
 // What a field may hold: nothing; anything, since it is not read; a number with so many places, from a lowest to a highest value; or a word of so many characters,
 // likewise, behind the number by which another one is refused.
-#[derive(Drop)]
+#[derive(Clone, Copy)]
 pub enum Rule {
     Unnamed,
     NotRead,
@@ -20,7 +20,7 @@ pub enum Rule {
 }
 
 // What a field holds by its rule: a fault (refusal 6), or a value and whether it is outside its limits (refusal 7).
-#[derive(Drop)]
+#[derive(Clone, Copy)]
 pub enum Field {
     Faulty,
     Value(u64, bool),

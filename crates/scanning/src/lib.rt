@@ -12,14 +12,14 @@ use fields::Span;
 use rules::Field;
 
 // What a pass over a line's fields keeps beside their values: the place of the last field that is not blank, from 1, and whether a value is outside its limits.
-#[derive(Drop)]
+#[derive(Clone, Copy)]
 pub struct Scan {
     pub count: usize,
     pub outside: bool,
 }
 
 // A field noted: whether it is a fault, and what the pass keeps.
-#[derive(Drop)]
+#[derive(Clone, Copy)]
 pub struct Noted {
     pub faulty: bool,
     pub scan: Scan,

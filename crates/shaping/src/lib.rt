@@ -15,7 +15,7 @@ use kinds::Kind;
 const MOST_HELD: usize = 20;
 
 // The refusal by 9 to 12, 18 or 19, 0 for none; the kind; and how many are held then, as many as before where the block is refused.
-#[derive(Drop)]
+#[derive(Clone, Copy)]
 pub struct Shape {
     pub refusal: u64,
     pub kind: Kind,
@@ -58,7 +58,7 @@ fn taken_by(kind: Kind, cards: &[u64]) -> usize
 }
 
 // The numbers of a reach: its steps, and K and X in hundredths.
-#[derive(Drop)]
+#[derive(Clone, Copy)]
 pub struct ReachNumbers {
     pub steps: u64,
     pub k: u64,

@@ -6,27 +6,27 @@ ghost use Rattle.sheeting.specs.Sizes.{sheet_size};
 use streams::{Asked, Next};
 
 // Answers whether the sheet and the line behind it were written.
-fn print_sheet(deck: &[u8], named: usize, ratio: usize, out: &mut [u8]) -> bool
+fn print_sheet(rt: &HostRuntime, deck: &[u8], named: usize, ratio: usize, out: &mut [u8]) -> bool
     requires { sheet_size ≤ length out.old }
 {
     let end = sheeting::sheet_deck(deck, named, ratio, out);
-    if streams::print(&out[..end]) {
-        return streams::print(b"--\n");
+    if streams::print(rt, &out[..end]) {
+        return streams::print(rt, b"--\n");
     }
     false
 }
 
 // Answers whether there was a whole case and its sheet was written.
-fn answer_next(deck: &mut [u8], out: &mut [u8]) -> bool
+fn answer_next(rt: &HostRuntime, deck: &mut [u8], out: &mut [u8]) -> bool
     requires { sheet_size ≤ length out.old }
 {
-    let Asked::Block(case) = streams::next_case() else {
+    let Asked::Block(case) = streams::next_case(rt) else {
         return false;
     };
-    match streams::read_deck(deck, case.size) {
-        Next::Number(kept) => print_sheet(&deck[..kept], case.named, case.ratio, out),
+    match streams::read_deck(rt, deck, case.size) {
+        Next::Number(kept) => print_sheet(rt, &deck[..kept], case.named, case.ratio, out),
         none => {
-            streams::explain(none);
+            streams::explain(rt, none);
             false
         }
     }
@@ -38,11 +38,11 @@ fn blank_sheet() -> [u8; sheeting::SHEET] {
 }
 
 // A proved loop has to end, and nothing says that the input does: no run uses up the turns.
-fn main() {
+fn main(rt: HostRuntime) {
     let mut deck = [0u8; streams::DECK];
     let mut out = blank_sheet();
     let mut turns = u64::MAX;
-    while 0 < turns && answer_next(&mut deck, &mut out) {
+    while 0 < turns && answer_next(&rt, &mut deck, &mut out) {
         turns -= 1;
     }
 }

@@ -8,7 +8,7 @@ use identifiers::Head;
 use placing::{Placed, Reading};
 
 // A line is refused; it is passed, and the reading goes on in that form; it names a block; it ends the deck; or it has fields, of the record at that place.
-#[derive(Drop)]
+#[derive(Clone, Copy)]
 pub enum Sorted {
     Refused(u64),
     Passed(bool),

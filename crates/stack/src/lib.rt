@@ -23,7 +23,7 @@ pub const PLACE: usize = 300;
 const PAIR: usize = 2 * PLACE;
 
 // How many are held, and the area of each in hundredths of a square mile, the first held first.
-#[derive(Drop)]
+#[derive(Clone, Copy)]
 pub struct Stack {
     pub areas: [u32; 20],
     pub depth: usize,

@@ -25,29 +25,29 @@ fn zeros() -> [u8; HELD] {
     [0u8; HELD]
 }
 
-fn tell_refusal(number: u64, line: u64) {
+fn tell_refusal(rt: &HostRuntime, number: u64, line: u64) {
     let mut out = [0u8; printing::REFUSAL];
     let n = printing::write_refusal(&mut out, number, line);
-    streams::say(&out[..n]);
+    streams::say(rt, &out[..n]);
 }
 
-fn tell_number(number: u64) {
+fn tell_number(rt: &HostRuntime, number: u64) {
     let mut out = [0u8; TOLD];
     let n = text::write_told(&mut out, 0, b"REFUSED ", number);
-    streams::say(&out[..n]);
+    streams::say(rt, &out[..n]);
 }
 
 // With 6,000 words, 300 ordinates and the records of 200 blocks under nine ratios neither refusal 1 nor 17 is met.
-fn keep_records(deck: &[u8]) {
+fn keep_records(rt: &HostRuntime, deck: &[u8]) {
     let mut work = [0u64; answers::WORK];
     let mut ordinates = [0u64; ORDINATES];
     let mut records = [0u8; RECORDS];
     match engine::run(deck, 0, 0, &mut work, &mut ordinates, &mut records) {
         Answer::Accepted(_, blocks, ratios) => {
             let n = RECORD * (blocks * ratios);
-            streams::print(&records[..n]);
+            streams::print(rt, &records[..n]);
         }
-        Answer::Refused(number, line) => tell_refusal(number, line),
+        Answer::Refused(number, line) => tell_refusal(rt, number, line),
     }
 }
 
@@ -61,53 +61,53 @@ fn move_file(asked: usize, file: &[u8], room: &mut [u8]) -> Move
     moving::to_old(file, room)
 }
 
-fn put_moved(asked: usize, file: &[u8], room: &mut [u8]) {
+fn put_moved(rt: &HostRuntime, asked: usize, file: &[u8], room: &mut [u8]) {
     match move_file(asked, file, room) {
         Move::Moved(n) => {
-            streams::print(&room[..n]);
+            streams::print(rt, &room[..n]);
         }
-        Move::Refused(number) => tell_number(number),
+        Move::Refused(number) => tell_number(rt, number),
     }
 }
 
-fn keep_moved(asked: usize, file: &[u8]) {
+fn keep_moved(rt: &HostRuntime, asked: usize, file: &[u8]) {
     if FILE < file.len() {
-        tell_number(0);
+        tell_number(rt, 0);
         return;
     }
     let mut room = zeros();
-    put_moved(asked, file, &mut room[..FILE]);
+    put_moved(rt, asked, file, &mut room[..FILE]);
 }
 
-fn keep(asked: usize) {
+fn keep(rt: &HostRuntime, asked: usize) {
     let mut file = zeros();
-    let got = streams::read_all(&mut file);
+    let got = streams::read_all(rt, &mut file);
     if got.failed {
-        streams::explain(Next::Failed);
+        streams::explain(rt, Next::Failed);
         return;
     }
     let n = got.count;
     if asked == 0 {
-        keep_records(&file[..n]);
+        keep_records(rt, &file[..n]);
     } else {
-        keep_moved(asked, &file[..n]);
+        keep_moved(rt, asked, &file[..n]);
     }
 }
 
 // A number that asks for nothing is an input cut short.
-fn answer(asked: usize) {
+fn answer(rt: &HostRuntime, asked: usize) {
     if 2 < asked {
-        streams::explain(Next::Cut);
+        streams::explain(rt, Next::Cut);
     } else {
-        keep(asked);
+        keep(rt, asked);
     }
 }
 
 // And so is no number.
-fn main() {
-    match streams::read_number() {
-        Next::Number(asked) => answer(asked),
-        Next::Failed => streams::explain(Next::Failed),
-        _ => streams::explain(Next::Cut),
+fn main(rt: HostRuntime) {
+    match streams::read_number(&rt) {
+        Next::Number(asked) => answer(&rt, asked),
+        Next::Failed => streams::explain(&rt, Next::Failed),
+        _ => streams::explain(&rt, Next::Cut),
     }
 }

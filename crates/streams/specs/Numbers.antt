@@ -1,4 +1,5 @@
 -- What a number that was read means, of each function that answers one; where there is none, nothing is said.
+--     IsPrefixLen   how many bytes were read, no more than are lent
 --     Filled        as many bytes as are lent
 --     InFour        a number that four bytes hold; which four they were no contract of the kit tells
 --     CaseInFour    the same of the three numbers before a case's deck
@@ -6,13 +7,17 @@
 --     Fits          of a deck of any size that four bytes hold
 --     of_number     what holds of the number that was answered
 --     kept_fits     what is kept of a deck lies within what is lent
-use Rattle.std.specs.Prelude.{◌≡◌, List, ℕ, ◌^◌, ◌≤◌, ◌<◌, min, length}
+use Rattle.std.specs.Prelude.{◌≡◌, List, ℕ, ◌^◌, ◌≤◌, ◌<◌, min, length, take}
 use Rattle.std.proofs.Common.{subst, arith}
 use Rattle.streams.specs.declared.Case.{Case}
 use Rattle.streams.specs.declared.Asked.{Asked}
 use Rattle.streams.specs.declared.Asked.TheVariants.{Block, Nothing}
 use Rattle.streams.specs.declared.Next.{Next}
 use Rattle.streams.specs.declared.Next.TheVariants.{Number, End, Cut, Failed}
+
+-- `&xs[..n]` is in bounds and has n bytes.
+abbrev pub IsPrefixLen : ℕ → List ℕ → Type 0
+IsPrefixLen n xs = (n ≤ length xs) × (n ≡ length (take n xs))
 
 abbrev pub OfNumber : (ℕ → Type 0) → Next → Type 0
 OfNumber P (Number n) = P n

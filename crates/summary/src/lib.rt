@@ -7,7 +7,7 @@ ghost use Rattle.summary.specs.Summary.{no_summary, summary_within};
 const FLOW_LIMIT: u64 = 6_000_000_000_000;
 
 // An interval of 0 is that of no hydrograph.
-#[derive(Drop)]
+#[derive(Clone, Copy)]
 pub struct Summary {
     pub peak: u64,
     pub interval: u64,

@@ -14,7 +14,7 @@ use placing::{Phase, Reading};
 use scanning::Scan;
 
 // A line's values taken: the refusal, 0 for none, and where the reading stands then.
-#[derive(Drop)]
+#[derive(Clone, Copy)]
 pub struct Read {
     pub refusal: u64,
     pub reading: Reading,

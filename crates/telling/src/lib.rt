@@ -9,7 +9,7 @@ use stack::Stack;
 use summary::Summary;
 
 // A block closed: the refusal by 9 to 13 or 18 to 20, 0 for none; then the number of its kind, its area and the summary of its hydrograph, which is the last held.
-#[derive(Drop)]
+#[derive(Clone, Copy)]
 pub struct Closed {
     pub refusal: u64,
     pub held: Stack,

@@ -1,5 +1,7 @@
 // Bytes, texts and numbers in decimal, written into lent bytes from a place on; and a text without the blanks at its end.
 // Each function that writes answers the place behind what it wrote.
+#![tactic(auto)]
+
 ghost use Rattle.std.specs.Prelude.{◌≡◌, [], ◌∷◌, ◌++◌, ◌+◌, ◌<◌, ◌≤◌, length};
 ghost use Rattle.meaning.specs.Lines.{blank};
 ghost use Rattle.meaning.specs.Fields.{trim_end, is_blank};
@@ -21,7 +23,9 @@ pub fn write_text(out: &mut [u8], at: usize, text: &[u8]) -> usize
     requires { at + length text.now ≤ length out.old }
     ensures { Written out.old at text.now out.new result }
 {
-    at + bytes::copy(text, &mut out[at..])
+    let end = at + text.len();
+    out[at..end].copy_from_slice(text);
+    end
 }
 
 fn digit_of(d: u64) -> u8

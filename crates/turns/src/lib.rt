@@ -13,7 +13,7 @@ use placing::Reading;
 use stack::Stack;
 
 // Where the walk stands between two blocks: the reading, what is held, the place in the deck, the lines passed, and the blocks opened.
-#[derive(Drop)]
+#[derive(Clone, Copy)]
 pub struct State {
     pub reading: Reading,
     pub held: Stack,
@@ -23,7 +23,7 @@ pub struct State {
 }
 
 // What the work on a deck comes to: the number and the line of a refusal, or the ordinates and the blocks.
-#[derive(Drop)]
+#[derive(Clone, Copy)]
 pub struct Worked {
     pub refused: bool,
     pub number: u64,
@@ -33,7 +33,7 @@ pub struct Worked {
 }
 
 // A turn of the walk: it goes on from a state, or the deck is worked.
-#[derive(Drop)]
+#[derive(Clone, Copy)]
 pub struct Turn {
     pub ended: bool,
     pub state: State,
@@ -41,7 +41,7 @@ pub struct Turn {
 }
 
 // A block finished: the refusal, 0 for none, and what is held.
-#[derive(Drop)]
+#[derive(Clone, Copy)]
 pub struct Finished {
     pub refusal: u64,
     pub held: Stack,

@@ -139,7 +139,7 @@ fn step(
 }
 
 // A deck walked: what it came to, and the ratios in force where it did, none before its first block.
-#[derive(Drop)]
+#[derive(Clone, Copy)]
 pub struct Walked {
     pub worked: Worked,
     pub ratios: Ratios,

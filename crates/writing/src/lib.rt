@@ -12,7 +12,7 @@ use stack::Stack;
 use telling::Closed;
 
 // What is asked for: the block whose ordinates are wanted, by its number from 1, and the place of the ratio on JR, counted from 0.
-#[derive(Drop)]
+#[derive(Clone, Copy)]
 pub struct Asked {
     pub named: usize,
     pub place: usize,

@@ -1,0 +1,8 @@
+-- The blank, and the digits behind it.
+use Rattle.text.specs.Written.{written_more}
+use native.Mathlib.Omega.{arith}
+use borrow.Author.Rules.{rules}
+use Rattle.text.proofs.write_number.Goals as goal
+
+pub returns : goal.returns
+returns c = written_more (omega arith) c.write_byte-next.ensures c.write_whole.ensures
