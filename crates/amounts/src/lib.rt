@@ -1,4 +1,6 @@
 // The value of a field: its number in units of the last of the places that the field allows. How a number is read from bytes is not told here.
+#![tactic(auto)]
+
 ghost use Rattle.std.specs.Prelude.{◌≡◌, ◌^◌, ◌≤◌, ◌<◌};
 ghost use Rattle.meaning.specs.Numbers.{number_of, in_units};
 ghost use Rattle.numbers.specs.Reading.{number_is};

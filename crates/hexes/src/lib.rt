@@ -1,4 +1,6 @@
 // Bytes in print: each in two hexadecimal digits.
+#![tactic(auto)]
+
 ghost use Rattle.std.specs.Prelude.{◌≡◌, ◌+◌, ◌*◌, ◌<◌, ◌≤◌, length};
 ghost use Rattle.text.specs.Line.{line};
 ghost use Rattle.text.specs.Written.{Written};

@@ -1,4 +1,6 @@
 // Ponds: level-pool routing by modified Puls, in place: a hydrograph of inflows becomes that of the outflows. And refusal 19, of a pond's table.
+#![tactic(auto)]
+
 ghost use Rattle.std.specs.Prelude.{◌≡◌, ◌||◌, ◌++◌, ℕ, ◌+◌, ◌*◌, ◌/◌, ◌≤◌, ◌<◌, length, get_or, take, drop, replicate};
 ghost use Rattle.sequences.specs.Bounds.{AllUpTo};
 ghost use Rattle.meaning.specs.Words.{◌<?◌};

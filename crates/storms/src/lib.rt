@@ -1,4 +1,6 @@
 // The rain of a block by interval: the depths that are listed, or a storm's total cut by them as its pattern. And whether any is listed.
+#![tactic(auto)]
+
 ghost use Rattle.std.specs.Prelude.{◌≡◌, ◌*◌, ◌≤◌, length, get_or};
 ghost use Rattle.sequences.specs.Bounds.{AllUpTo};
 ghost use Rattle.meaning.specs.Water.{ten_thousandth, sum_of, rain_of, cut_of};

@@ -15,48 +15,48 @@ use Rattle.pond.proofs.list_w.Tie as tie
 abbrev w_at : (m : ℕ) (svs sqs : List ℕ) → ℕ → ℕ
 w_at m svs sqs k = w_of m (row_at svs sqs k)
 
-abbrev invariant-loop : tie.invariant-loop
+abbrev invariant-loop : tie.invariant-loop-i
 invariant-loop m svs sqs ws₀ i₀ ws i = (i ≤ length svs) × Rewritten (w_at m svs sqs) ws₀ ws i
 
-abbrev decreases-loop : tie.decreases-loop
+abbrev decreases-loop : tie.decreases-loop-i
 decreases-loop m svs sqs ws₀ i₀ ws i = length svs - i
 
 -- The entry, seen from where the loop begins, and the loop's test from behind a row's W.
-abbrev entry : tie.After-blank-ws invariant-loop decreases-loop → tie.Start invariant-loop decreases-loop
+abbrev entry : tie.After-blank_ws-ws invariant-loop decreases-loop → tie.Start invariant-loop decreases-loop
 entry c = c.before.before.before
 
-abbrev at-loop : tie.After-w-at invariant-loop decreases-loop → tie.At-loop invariant-loop decreases-loop
+abbrev at-loop : tie.After-w_at invariant-loop decreases-loop → tie.At-loop-i invariant-loop decreases-loop
 at-loop c = c.before.before
 
-loop-holds : tie.Need-loop-init invariant-loop decreases-loop
-loop-holds c = let x = (entry c).args in (omega arith, rewritten_none (w_at x.m x.svs.now x.sqs.now) c.blank-ws.result 0 refl)
+loop-holds : tie.Need-loop-i-init invariant-loop decreases-loop
+loop-holds c = let x = (entry c).args in (omega arith, rewritten_none (w_at x.m x.svs.now x.sqs.now) c.blank_ws-ws.result 0 refl)
 
-w-at-requires : tie.Need-w-at-requires invariant-loop decreases-loop
-w-at-requires c κs = ((entry c.before.before).pre, omega arith)
+w-at-requires : tie.Need-w_at-requires invariant-loop decreases-loop
+w-at-requires c κs = record { pond_table = (entry c.before.before).pre; row_in_bounds = omega arith }
 
 -- There is room for every row, and for one place behind the last.
-room : (c : tie.After-w-at invariant-loop decreases-loop) → ((at-loop c).loop.i < 20) × (length (at-loop c).before.blank-ws.result ≡ 21)
-room c = (omega (arith, (entry (at-loop c).before).pre.few), rw (at-loop c).before.blank-ws.ensures (length-replicate 21 no_w))
+room : (c : tie.After-w_at invariant-loop decreases-loop) → ((at-loop c).loop.i < 20) × (length (at-loop c).blank_ws-ws.result ≡ 21)
+room c = (omega (arith, (entry (at-loop c).before).pre.few), rw (at-loop c).blank_ws-ws.ensures (length-replicate 21 no_w))
 
-array-write-ws : tie.Need-array-write-ws invariant-loop decreases-loop
+array-write-ws : tie.Need-bounds-ws-i invariant-loop decreases-loop
 array-write-ws c = omega (arith, room c, (at-loop c).loop.invariant.1.long)
 
-loop-again : tie.Need-loop-preserved invariant-loop decreases-loop
+loop-again : tie.Need-loop-i-preserved invariant-loop decreases-loop
 loop-again c =
     let x = (entry (at-loop c).before).args in
     let l = (at-loop c).loop in
-    let blank = (at-loop c).before.blank-ws.result in
+    let blank = (at-loop c).blank_ws-ws.result in
     (omega arith, rewritten_more (w_at x.m x.svs.now x.sqs.now) blank l.ws l.i _ l.inv.1 (omega (arith, room c)) c.w_at.ensures)
 
 returns : tie.Need-returns invariant-loop decreases-loop
 returns c =
     let start = c.before.before in
     let s = entry start in
-    let l = c.before.loop in
-    ws_listed s.args.m s.args.svs.now s.args.sqs.now s.pre start.blank-ws.result l.ws l.i start.blank-ws.ensures (omega arith) l.invariant.1
+    let l = c.loop-i in
+    ws_listed s.args.m s.args.svs.now s.args.sqs.now s.pre start.blank_ws-ws.result l.ws l.i start.blank_ws-ws.ensures (omega arith) l.invariant.1
 
-pub list-w-spec : {M : Type 1} → statement M
-list-w-spec =
+pub list_w_spec : {M : Type 1} → statement M
+list_w_spec =
     tie.close
     (tie.spec
     invariant-loop decreases-loop (λ c κs. search rules) loop-holds w-at-requires (λ c. omega (arith, room c)) array-write-ws (λ c. omega arith) (λ c. omega arith) loop-again returns)

@@ -7,49 +7,49 @@ use Rattle.pond.specs.Spans.{graded_products, graded_on, graded_over}
 use Rattle.pond.proofs.outflow_at.Statement.{statement}
 use Rattle.pond.proofs.outflow_at.Tie as tie
 
-returns : tie.Need-returns
+returns : tie.Need-returns-then-s-w
 returns c =
     let s = c.before.before.before.before in
     let over : s.args.s.high < s.args.w = omega arith in
     graded_over s.args.s s.args.w s.requires.1 over
 
 -- Where x is known, where the share is, and where it is divided.
-abbrev at-share : tie.After-round-down → tie.After-plain2
+abbrev at-share : tie.After-round_down → tie.After-plain-share
 at-share c = c.before.before.before.before
 
-abbrev at_x : tie.After-round-down → tie.After-plain
+abbrev at_x : tie.After-round_down → tie.After-plain-x
 at_x c = (at-share c).before.before.before
 
-abbrev start : tie.After-plain → tie.Start
+abbrev start : tie.After-plain-x → tie.Start
 start c = c.before.before.before.before
 
-products : (c : tie.After-plain) → let s = (start c).args.s in let x = c.plain.result in
+products : (c : tie.After-plain-x) → let s = (start c).args.s in let x = c.plain-x.result in
     (s.more * (x / s.rise) ≤ 6_000_000_000_000) × (s.more * (x % s.rise) ≤ 289_199_985_480_000_000)
 products c =
     let s = start c in
-    let up : c.plain.result ≤ 600_000 * s.args.s.rise = omega (arith, c.plain.ensures, s.pre.1.whole) in
-    graded_products s.args.s s.args.w s.pre.1 c.plain.result up
+    let up : c.plain-x.result ≤ 600_000 * s.args.s.rise = omega (arith, c.plain-x.ensures, s.pre.1.whole) in
+    graded_products s.args.s s.args.w s.pre.1 c.plain-x.result up
 
-round-down-requires : tie.Need-round-down-requires
+round-down-requires : tie.Need-round_down-requires
 round-down-requires c κs =
     let x = c.before.before.before.before.before.before in
     let g = (start x).requires.1 in
-    (g.some, g.rise_up, omega (arith, c.before.before.before.plain2.ensures, products x))
+    (g.some, g.rise_up, omega (arith, c.plain-share.ensures, products x))
 
-add-result-3 : tie.Need-overflow-add-result-3
+add-result-3 : tie.Need-overflow_add-result-3
 add-result-3 c =
     let share = (at-share c).plain2 in
     let g = (start (at_x c)).requires.1 in
-    omega (arith, c.round-down.ensures, share.ensures, div-le_self share.result (start (at_x c)).args.s.rise, products (at_x c), g.out_up)
+    omega (arith, c.round_down.ensures, share.ensures, div-le_self share.result (start (at_x c)).args.s.rise, products (at_x c), g.out_up)
 
-returns-2 : tie.Need-returns-2
+returns-2 : tie.Need-returns
 returns-2 c =
     let s = start (at_x c) in
     let on : s.args.w ≤ s.args.s.high = omega arith in
-    graded_on s.args.s s.args.w s.pre.1 _ _ _ on (at_x c).plain.ensures (at-share c).plain2.ensures c.round-down.ensures
+    graded_on s.args.s s.args.w s.pre.1 _ _ _ on (at_x c).plain.ensures (at-share c).plain2.ensures c.round_down.ensures
 
-pub outflow-at-spec : {M : Type 1} → statement M
-outflow-at-spec =
+pub outflow_at_spec : {M : Type 1} → statement M
+outflow_at_spec =
     tie.close
     (tie.spec
     (λ c. search rules) (λ c. search rules) returns (λ c. search rules) (λ c κs. search rules) (λ c. search rules) (λ c. omega (arith, products c.before.before))

@@ -36,17 +36,17 @@ record Inv (m : ℕ) (svs sqs : List ℕ) (first : ℕ) (q₀ q : List ℕ) (w x
   done : take i q ++ outflows_after m (rows_of svs sqs) (pool_of w x o) (drop i q) ≡ take 1 q₀ ++ outflows_after m (rows_of svs sqs) (pool_of 0 first 0) (drop 1 q₀)
   above : (over || above_after m (rows_of svs sqs) (pool_of w x o) (drop i q)) ≡ above_after m (rows_of svs sqs) (pool_of 0 first 0) (drop 1 q₀)
 
-abbrev invariant-loop : tie.invariant-loop
+abbrev invariant-loop : tie.invariant-loop-i
 invariant-loop q₀ m svs sqs ws rises first w₀ old-in₀ old-out₀ over₀ s₀ i₀ q w old-in old-out over s i = Inv m svs sqs first q₀ q w old-in old-out over s i
 
-abbrev decreases-loop : tie.decreases-loop
+abbrev decreases-loop : tie.decreases-loop-i
 decreases-loop q₀ m svs sqs ws rises first w₀ old-in₀ old-out₀ over₀ s₀ i₀ q w old-in old-out over s i = length q₀ - i
 
 -- The entry, seen from where the loop begins, and the loop's test from behind the four calls.
-abbrev entry : tie.After-span-at invariant-loop decreases-loop → tie.Start invariant-loop decreases-loop
+abbrev entry : tie.After-span_at-s invariant-loop decreases-loop → tie.Start invariant-loop decreases-loop
 entry c = c.before.before.before.before.before.before
 
-abbrev at-loop : tie.After-outflow-at invariant-loop decreases-loop → tie.At-loop invariant-loop decreases-loop
+abbrev at-loop : tie.After-outflow_at-old_out invariant-loop decreases-loop → tie.At-loop-i invariant-loop decreases-loop
 at-loop c = c.before.before.before.before.before.before
 
 -- There are two rows at least.
@@ -55,16 +55,16 @@ two s =
     let m = s.args.m in
     let svs = s.args.svs.now in
     let sqs = s.args.sqs.now in
-    let t = s.requires.0 in
+    let t = s.requires.pond_table in
     omega (arith, two_rows m svs sqs t, count_rows svs sqs (paired m svs sqs t))
 
-span-at-requires : tie.Need-span-at-requires invariant-loop decreases-loop
+span-at-requires : tie.Need-span_at-s-requires invariant-loop decreases-loop
 span-at-requires c κs =
     let s = c.before.before.before.before.before in
     let x = s.args in
-    row_listed x.m x.svs.now x.sqs.now s.requires.0 x.ws.now x.rises.now s.requires.1.0 s.requires.1.1.0 0 (two s)
+    row_listed x.m x.svs.now x.sqs.now s.requires.pond_table x.ws.now x.rises.now s.requires.ws_of.0 s.requires.ws_of.1.0 0 (two s)
 
-loop-holds : tie.Need-loop-init invariant-loop decreases-loop
+loop-holds : tie.Need-loop-i-init invariant-loop decreases-loop
 loop-holds c =
     let s = entry c in
     let x = s.args in
@@ -76,38 +76,38 @@ loop-holds c =
       in_up = omega arith;
       low = omega arith;
       held = omega (arith, mul-zero (2 * x.m));
-      span = rw c.span-at.ensures (span_listed x.m x.svs.now x.sqs.now s.pre.0 x.ws.now x.rises.now s.pre.1.0 s.pre.1.1.0 0 (two s));
+      span = rw c.span_at-s.ensures (span_listed x.m x.svs.now x.sqs.now s.pre.0 x.ws.now x.rises.now s.pre.1.0 s.pre.1.1.0 0 (two s));
       done = refl;
       above = refl;
     }
 
 -- What the search goes through.
-sought : (l : tie.At-loop invariant-loop decreases-loop) → let x = (entry l.before).args in Sought x.m x.svs.now x.sqs.now x.ws.now x.rises.now l.loop.s
+sought : (l : tie.At-loop-i invariant-loop decreases-loop) → let x = (entry l.before).args in Sought x.m x.svs.now x.sqs.now x.ws.now x.rises.now l.loop-i.s
 sought l =
     let s = entry l.before in
-    record { table = s.pre.0; levels = s.pre.1.0; steps = s.pre.1.1.0; span = l.loop.invariant.span }
+    record { table = s.pre.0; levels = s.pre.1.0; steps = s.pre.1.1.0; span = l.loop-i.invariant.span }
 
-w-after-requires : tie.Need-w-after-requires invariant-loop decreases-loop
+w-after-requires : tie.Need-w_after-w-requires invariant-loop decreases-loop
 w-after-requires c κs =
     let l = c.before.before in
     let pre = (entry l.before).pre in
     let t = pre.0 in
-    let v = l.loop.invariant in
-    (omega (arith, v.up, v.low, pre.1.1.1.0), record { minutes = t.minutes; old_up = omega (arith, v.in_up); new_up = v.flows l.loop.i; held = omega (arith, v.held) })
+    let v = l.loop-i.invariant in
+    (omega (arith, v.up, v.low, pre.1.1.1.0), record { minutes = t.minutes; old_up = omega (arith, v.in_up); new_up = v.flows l.loop-i.i; held = omega (arith, v.held) })
 
-seek-requires : tie.Need-seek-requires invariant-loop decreases-loop
+seek-requires : tie.Need-seek-s-requires invariant-loop decreases-loop
 seek-requires c κs =
     let l = c.before.before.before in
     let s = entry l.before in
     record { m = s.args.m; sought = sought l }
 
-outflow-at-requires : tie.Need-outflow-at-requires invariant-loop decreases-loop
+outflow-at-requires : tie.Need-outflow_at-old_out-requires invariant-loop decreases-loop
 outflow-at-requires c κs =
     let l = c.before.before.before.before.before in
     let s = entry l.before in
-    (s.pre.0.minutes, found_graded s.args.m s.args.svs.now s.args.sqs.now s.pre.0 _ _ (c.before.seek.ensures s.args.m (sought l)))
+    (s.pre.0.minutes, found_graded s.args.m s.args.svs.now s.args.sqs.now s.pre.0 _ _ (c.seek-s.ensures s.args.m (sought l)))
 
-loop-again : tie.Need-loop-preserved invariant-loop decreases-loop
+loop-again : tie.Need-loop-i-preserved invariant-loop decreases-loop
 loop-again c =
     let s = entry (at-loop c).before in
     let m = s.args.m in
@@ -117,16 +117,16 @@ loop-again c =
     let t = s.pre.0 in
     let l = (at-loop c).loop in
     let v = l.inv in
-    let w = c.before.before.before.w-after.result in
-    let ew = c.before.before.before.w-after.ensures in
-    let found = c.before.before.seek.ensures m (sought (at-loop c)) in
-    let span = c.before.before.seek.result in
-    let o = c.outflow-at.result in
-    let eo : o ≡ outflow_at m rows w = c.outflow-at.ensures ∙ found_outflow m svs sqs t span w found in
+    let w = c.w_after-w.result in
+    let ew = c.w_after-w.ensures in
+    let found = c.seek-s.ensures m (sought (at-loop c)) in
+    let span = c.seek-s.result in
+    let o = c.outflow_at-old_out.result in
+    let eo : o ≡ outflow_at m rows w = c.outflow_at-old_out.ensures ∙ found_outflow m svs sqs t span w found in
     let interval : Interval m (pool_of l.w l.old-in l.old-out) (get_or l.q l.i 0) = record { minutes = t.minutes; old_up = v.in_up; new_up = v.flows l.i; held = v.held } in
     let grown = w-after_limit m (pool_of l.w l.old-in l.old-out) (get_or l.q l.i 0) interval in
     let flow : o ≤ flow_limit = rw eo (le_trans (outflow_last m rows (ruled m svs sqs t) w) (row_flow m svs sqs t (length rows - 1))) in
-    let over : c.before.is-over.result ≡ ((last_w m rows <? w) || l.over) = c.before.is-over.ensures ∙ ap (λ (b : Bool). b || l.over) (found-over m svs sqs t span w found) in
+    let over : c.is_over-over.result ≡ ((last_w m rows <? w) || l.over) = c.is_over-over.ensures ∙ ap (λ (b : Bool). b || l.over) (found-over m svs sqs t span w found) in
     record {
       some = omega arith;
       up = omega arith;
@@ -142,17 +142,14 @@ loop-again c =
 
 returns : tie.Need-returns invariant-loop decreases-loop
 returns c =
-    let l = c.before.loop in
+    let l = c.loop-i in
     let v = l.invariant in
     let past : length l.q ≤ l.i = omega (arith, v.long) in
-    let none : drop l.i l.q ≡ [] = drop_of_length-le l.q past in (
-      sym (overwrite_done (outflows_after _ _ (pool_of l.w l.old-in l.old-out)) l.q l.i past refl) ∙ v.done,
-      sym (or-false l.over) ∙ rw none at v.above,
-    )
+    let none : drop l.i l.q ≡ [] = drop_of_length-le l.q past in record { q_after = sym (overwrite_done (outflows_after _ _ (pool_of l.w l.old-in l.old-out)) l.q l.i past refl) ∙ v.done; over = sym (or-false l.over) ∙ rw none at v.above }
 
-pub pass-on-spec : {M : Type 1} → statement M
-pass-on-spec =
+pub pass_on_spec : {M : Type 1} → statement M
+pass_on_spec =
     tie.close
     (tie.spec
     invariant-loop decreases-loop span-at-requires loop-holds (λ c. omega arith) (λ c. omega arith) w-after-requires seek-requires (λ c κs. tt) outflow-at-requires
-    (λ c. omega arith) (λ c. omega arith) (λ c. omega arith) (λ c. omega arith) loop-again (λ c. c.before.loop.invariant.long) returns)
+    (λ c. omega arith) (λ c. omega arith) (λ c. omega arith) (λ c. omega arith) loop-again (λ c. c.loop-i.invariant.long) returns)

@@ -9,21 +9,21 @@ use Rattle.pond.proofs.rise_at.Statement.{statement}
 use Rattle.pond.proofs.rise_at.Tie as tie
 
 pairs : (s : tie.Start) → length s.args.svs.now ≡ length s.args.sqs.now
-pairs s = paired s.args.m s.args.svs.now s.args.sqs.now s.requires.0
+pairs s = paired s.args.m s.args.svs.now s.args.sqs.now s.requires.pond_table
 
 follows : (s : tie.Start)
     → Follows s.args.m (row_at s.args.svs.now s.args.sqs.now s.args.row) (row_at s.args.svs.now s.args.sqs.now (s.args.row + 1))
-follows s = rows_follow s.args.m s.args.svs.now s.args.sqs.now s.requires.0 s.args.row s.requires.1
+follows s = rows_follow s.args.m s.args.svs.now s.args.sqs.now s.requires.pond_table s.args.row s.requires.row_in_bounds
 
-rise-of-requires : tie.Need-rise-of-requires
+rise-of-requires : tie.Need-rise_of-requires
 rise-of-requires c κs =
     let s = c.before.before.before.before.before.before in
-    let t = s.requires.0 in
+    let t = s.requires.pond_table in
     let f = follows s in
     (t.minutes, omega (arith, f.fills), t.volumes_up (s.args.row + 1), omega (arith, f.grows), t.outflows_up (s.args.row + 1))
 
-pub rise-at-spec : {M : Type 1} → statement M
-rise-at-spec =
+pub rise_at_spec : {M : Type 1} → statement M
+rise_at_spec =
     tie.close
     (tie.spec
     (λ c. search rules) (λ c. search rules) (λ c. search rules) (λ c. search rules) (λ c. omega (arith, pairs c.before.before.before.before))

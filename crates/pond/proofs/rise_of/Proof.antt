@@ -14,8 +14,8 @@ limit s =
     let x = s.args in
     rw (w_rises x.m x.sv x.sq x.next-sv x.next-sq s.requires.1 s.requires.3) (w_limit x.m x.next-sv x.next-sq s.requires.0 s.requires.2 s.requires.4)
 
-pub rise-of-spec : {M : Type 1} → statement M
-rise-of-spec =
+pub rise_of_spec : {M : Type 1} → statement M
+rise_of_spec =
     tie.close
     (tie.spec
     (λ c. search rules) (λ c. search rules) (λ c. search rules) (λ c. omega (arith, limit c)) (λ c. omega (arith, limit c)) (λ c. omega arith))

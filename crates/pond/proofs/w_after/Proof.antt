@@ -15,8 +15,8 @@ returns : tie.Need-returns
 unfolding w_after
 returns c = omega arith
 
-pub w-after-spec : {M : Type 1} → statement M
-w-after-spec =
+pub w_after_spec : {M : Type 1} → statement M
+w_after_spec =
     tie.close
     (tie.spec
     (λ c. search rules) (λ c. omega (arith, limit c)) (λ c. omega (arith, limit c)) (λ c. search rules) (λ c. search rules) (λ c. search rules) returns)

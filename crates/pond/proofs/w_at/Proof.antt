@@ -8,16 +8,16 @@ use Rattle.pond.proofs.w_at.Statement.{statement}
 use Rattle.pond.proofs.w_at.Tie as tie
 
 pairs : (s : tie.Start) → length s.args.svs.now ≡ length s.args.sqs.now
-pairs s = paired s.args.m s.args.svs.now s.args.sqs.now s.requires.0
+pairs s = paired s.args.m s.args.svs.now s.args.sqs.now s.requires.pond_table
 
-w-of-requires : tie.Need-w-of-requires
+w-of-requires : tie.Need-w_of-requires
 w-of-requires c κs =
     let s = c.before.before.before.before in
-    let t = s.requires.0 in
+    let t = s.requires.pond_table in
     (t.minutes, t.volumes_up s.args.row, t.outflows_up s.args.row)
 
-pub w-at-spec : {M : Type 1} → statement M
-w-at-spec =
+pub w_at_spec : {M : Type 1} → statement M
+w_at_spec =
     tie.close
     (tie.spec
     (λ c. search rules) (λ c. search rules) (λ c. search rules) (λ c. omega (arith, pairs c.before.before.before.before)) w-of-requires (λ c. search rules))

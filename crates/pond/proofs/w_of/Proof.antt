@@ -15,6 +15,6 @@ limit s =
 returns : tie.Need-returns
 returns c = omega (arith, w_hundredths c.args.m c.args.sv c.args.sq)
 
-pub w-of-spec : {M : Type 1} → statement M
-w-of-spec =
+pub w_of_spec : {M : Type 1} → statement M
+w_of_spec =
     tie.close (tie.spec (λ c. search rules) (λ c. omega (arith, limit c)) (λ c. omega (arith, limit c)) (λ c. omega (arith, limit c)) returns)

@@ -6,16 +6,16 @@ use borrow.Author.Rules.{rules}
 use Rattle.text.proofs.write_six_places.Goals as goal
 
 pub write_whole-point-requires : goal.write_whole-point-requires
-write_whole-point-requires c κs = omega (arith, length-six_places c.args.x)
+write_whole-point-requires c = omega (arith, length-six_places c.args.x)
 
 pub write_byte-places-requires : goal.write_byte-places-requires
-write_byte-places-requires c κs = omega (arith, length-six_places c.args.x)
+write_byte-places-requires c = omega (arith, length-six_places c.args.x)
 
 pub write_three_digits-last-requires : goal.write_three_digits-last-requires
-write_three_digits-last-requires c κs = omega (arith, length-six_places c.args.x)
+write_three_digits-last-requires c = omega (arith, length-six_places c.args.x)
 
 pub write_three_digits-requires : goal.write_three_digits-requires
-write_three_digits-requires c κs =
+write_three_digits-requires c =
     let mid = c in
     omega (arith, length-six_places mid.args.x)
 

@@ -1,10 +1,9 @@
--- The text is what `copy` leaves in the part from the place on.
-use Rattle.text.specs.Written.{written_copy}
-use borrow.Author.Rules.{rules}
+-- The text is what the copy leaves in the part from the place on.
+use Rattle.std.proofs.Common.{◌≡◌, ◌+◌, ◌-◌, refl, arith, length}
 use Rattle.text.proofs.write_text.Goals as goal
 
 pub returns : goal.returns
 returns c =
     let x = c.args in
-    let copied = c.copy in
-    written_copy x.out.now x.text.now copied.new.1.0 x.at copied.result copied.ensures.0 copied.ensures.1
+    let n : x.at + length x.text.now - x.at ≡ length x.text.now = omega arith in
+    record { place = refl; bytes = rw (n, c.copy_from_slice.ensures.after) refl }

@@ -6,17 +6,17 @@ use borrow.Author.Rules.{rules}
 use Rattle.text.proofs.write_told.Goals as goal
 
 pub write_text-number-requires : goal.write_text-number-requires
-write_text-number-requires c κs =
+write_text-number-requires c =
     let x = c.args in
     omega (arith, length-told x.word.now x.x)
 
 pub write_whole-end-requires : goal.write_whole-end-requires
-write_whole-end-requires c κs =
+write_whole-end-requires c =
     let x = c.args in
     omega (arith, length-told x.word.now x.x)
 
 pub write_byte-requires : goal.write_byte-requires
-write_byte-requires c κs =
+write_byte-requires c =
     let x = c.args in
     omega (arith, length-told x.word.now x.x)
 

@@ -9,16 +9,16 @@ use borrow.Author.Rules.{rules}
 use Rattle.text.proofs.write_two_places.Goals as goal
 
 pub write_whole-point-requires : goal.write_whole-point-requires
-write_whole-point-requires c κs = omega (arith, length-two_places c.args.x)
+write_whole-point-requires c = omega (arith, length-two_places c.args.x)
 
 pub write_byte-tenths-requires : goal.write_byte-tenths-requires
-write_byte-tenths-requires c κs = omega (arith, length-two_places c.args.x)
+write_byte-tenths-requires c = omega (arith, length-two_places c.args.x)
 
 pub write_byte-hundredths-requires : goal.write_byte-hundredths-requires
-write_byte-hundredths-requires c κs = omega (arith, length-two_places c.args.x)
+write_byte-hundredths-requires c = omega (arith, length-two_places c.args.x)
 
 pub write_byte-requires : goal.write_byte-requires
-write_byte-requires c κs =
+write_byte-requires c =
     let mid = c in
     omega (arith, length-two_places mid.args.x)
 

@@ -13,7 +13,7 @@ returns-then-l-c c =
     name_none (form_of a.free) a.l.now c.first_place-c.result c.if-l-c.true ∙ ap (name_from (form_of a.free) a.l.now) c.first_place-c.ensures
 
 pub span_at-requires : goal.span_at-requires
-span_at-requires c κs =
+span_at-requires c =
     let a = c.args in
     (search rules, search rules, rw c.first_place-c.ensures (first_stands (form_of a.free) a.l.now))
 
