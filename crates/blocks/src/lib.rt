@@ -1,5 +1,7 @@
 // The open block. Its values stand in one slice of words that the caller lends, a region for each record: a head word (0: not there; else 1 and how many values)
 // and the values behind it. What stands behind the counted values is scratch. Its name and the time control go by value.
+#![tactic(auto)]
+
 ghost use Rattle.std.specs.Prelude.{◌≡◌, false, List, [], ℕ, suc, ◌+◌, ◌≤◌, ◌<◌, length, take, get_or, set};
 ghost use Rattle.std.proofs.Math.Seq.{paste};
 ghost use Rattle.meaning.specs.Words.{◌<?◌, met, if◌then◌else◌};

@@ -64,7 +64,7 @@ closed_by phase.InBlock r cards ready within =
       time = refl;
       block = refl;
       letters = ready.short-name;
-      few_ordinates = ready.few-ordinates;
+      few_ordinates = ready.few_ordinates;
       few-ratios = ready.few-ratios;
       read = record { time = within.0; words = ready.readable; cards = within.1.cards };
     }

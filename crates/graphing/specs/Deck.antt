@@ -47,7 +47,7 @@ module _ (deck : List ℕ) (named ratio : ℕ) (a : engine.Answer) {work ordinat
       names = accepted-named deck named ratio nq blocks ratios (sym answered ∙ ap answer_is told)
 
       pub few_left : nq ≤ most_ordinates
-      few_left = omega (arith, names.ordinates-are, (done_fits deck names.done).time.few-ordinates)
+      few_left = omega (arith, names.ordinates-are, (done_fits deck names.done).time.few_ordinates)
 
       -- the ordinates that the run leaves
       left : ordinates ≡ named_flow named (named_ratio ratio names.results) ++ replicate (most_ordinates - nq) 0

@@ -199,7 +199,7 @@ ratios-read τ form l e t =
       some-minutes = t.some-minutes;
       few-minutes = t.few-minutes;
       some-ordinates = t.some-ordinates;
-      few_ordinates = t.few-ordinates;
+      few_ordinates = t.few_ordinates;
       small-ratio = t.small-ratio;
       small-ratios =
           listed_small (drop 1 (values_from ratio_rules 0 (ratio_fields fs)))
@@ -217,7 +217,7 @@ within_under τ k t =
       some-minutes = t.some-minutes;
       few-minutes = t.few-minutes;
       some-ordinates = t.some-ordinates;
-      few_ordinates = t.few-ordinates;
+      few_ordinates = t.few_ordinates;
       small-ratio = t.small-ratios k;
       small-ratios = t.small-ratios;
       few-ratios = t.few-ratios;

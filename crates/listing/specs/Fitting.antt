@@ -97,7 +97,7 @@ module _ (σ : Time) (b : Block) (within : limits.TimeWithin σ) (block : limits
     areas_then = omega (arith, area_after run.time b run.held block.cards shape_sound, after.areas)
 
     flow_short : length (held_in b run).flow ≤ most_ordinates
-    flow_short = short_for run.time b run.held (rw after.time within.few-ordinates) after.short
+    flow_short = short_for run.time b run.held (rw after.time within.few_ordinates) after.short
 
     result_fits : Fits result
     result_fits =
@@ -245,7 +245,7 @@ walk_done [] r s line within st e = absurd (let z : ◌≡◌ {A = ℕ} 0 1 = cc
 walk_done (l ∷ ls) r s line within st e =
     act_done s line (λ (next : Reading) (then : Standing). walk Every ls next then (line + 1))
     (λ (next : Reading) (then : Standing) there stands. walk_done ls next then (line + 1) there stands)
-    (does r l) within (limits.reading-within r l within) st e
+    (does r l) within (limits.reading_within r l within) st e
 
 pub done_fits : (deck : List ℕ) {τ : Time} {rss : List (List Result)} → worked deck ≡ Done τ rss → Fitting τ rss
 unfolding worked_under

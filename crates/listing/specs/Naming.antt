@@ -56,7 +56,7 @@ module _ (named ratio : ℕ) (τ : Time) (rss : List (List Result)) (f : Fitting
   room-named =
       let nine : length rss ≤ most_ratios = omega (arith, (fitting_few τ rss f).ratios-few, f.ratios) in
       let lots : record_bytes (block_count rss) (length rss) ≤ records_size = omega (arith, mul-le-mul f.few nine) in
-      rw (le-ltb most_ordinates τ.ordinates f.time.few-ordinates, le-ltb records_size (record_bytes (block_count rss) (length rss)) lots)
+      rw (le-ltb most_ordinates τ.ordinates f.time.few_ordinates, le-ltb records_size (record_bytes (block_count rss) (length rss)) lots)
 
 -- REFUSED
 module _ (text : Time → List Result → List ℕ) (deck : List ℕ) (named ratio : ℕ) where

@@ -78,7 +78,7 @@ module _ (τ : Time) (rss : List (List Result)) (f : Fitting τ rss) where
       let few = fitting_few in
       let lots = mul-le-mul_left (block_count rss) few.ratios-few in
       rw (
-        le-ltb most_ordinates τ.ordinates f.time.few-ordinates,
+        le-ltb most_ordinates τ.ordinates f.time.few_ordinates,
         le-ltb records_size (record_bytes (block_count rss) (length rss)) (rw f.ratios (omega (arith, f.few))),
         le-ltb (block_count rss) 0 (omega arith),
         le-ltb (length rss) 0 (omega arith),

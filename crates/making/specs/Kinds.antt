@@ -33,7 +33,7 @@ storm-read τ b time cards few =
       rains_up = (cards PI).high;
       total_up = total_up (is_given (card_of PB b)) (record { 0 = storm_total b * ten_thousandth }) (omega (arith, (cards PB).high 0));
       ratio_up = time.small-ratio;
-      intervals_up = time.few-ordinates;
+      intervals_up = time.few_ordinates;
     }
 
 -- a block that takes none finds room for one more

@@ -1,4 +1,6 @@
 // Where the reading stands, and what one line does there: a record stands in its place or not, a KK line names a block. It looks for no next line.
+#![tactic(auto)]
+
 mod names;
 mod places;
 

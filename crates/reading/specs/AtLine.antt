@@ -110,7 +110,7 @@ fault_event item r w fs due e = fault_by r.phase item (time_is r.time) (form_of 
 
 -- THE READING IN ANOTHER FORM
 pub ready_form : {r : Reading} {w : List ℕ} (free : Bool) → Ready r w → Ready (with_free r free) w
-ready_form free k = record { few_ordinates = k.few-ordinates; few-ratios = k.few-ratios; short-name = k.short-name; readable = k.readable; counted = k.counted }
+ready_form free k = record { few_ordinates = k.few_ordinates; few-ratios = k.few-ratios; short-name = k.short-name; readable = k.readable; counted = k.counted }
 
 -- NAMES
 pub name_bad : (q : run.Reading) (name : List ℕ) → bad_name name ≡ true → name_event q name ≡ Refuse 6

@@ -1,5 +1,7 @@
 // The table of records, as the code has it: a place for each record, the region of the open block's words that its values have, how it stands, its identifier,
 // and the rules of its fields. A further record is one entry more in each table here, and its rules.
+#![tactic(auto)]
+
 ghost use Rattle.std.specs.Prelude.{◌≡◌, suc, ◌≤◌, ◌<◌};
 ghost use Rattle.meaning.specs.Records.{row_of, rule_at, faulty_field, outside_field, value_of};
 ghost use Rattle.records.specs.Rows.{items, field_row, rules_by, start, way_in, span_in, span_by, most_by};

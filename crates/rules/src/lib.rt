@@ -1,4 +1,6 @@
 // What a field holds by its rule: a number within its limits, a word, anything, nothing. Which record has which rules is not told here.
+#![tactic(auto)]
+
 mod words;
 
 ghost use Rattle.std.specs.Prelude.{◌≡◌, not};

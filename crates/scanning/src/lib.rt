@@ -1,4 +1,6 @@
 // One pass over a line's fields: each is found, held against its record's rule, and its value kept, so that refusals 6 to 8 and the block's values need no second look.
+#![tactic(auto)]
+
 ghost use Rattle.std.specs.Prelude.{◌≡◌, true, false, ◌||◌, ◌+◌, ◌≤◌, length};
 ghost use Rattle.meaning.specs.Words.{if◌then◌else◌};
 ghost use Rattle.meaning.specs.Records.{rule_at, faulty_field};

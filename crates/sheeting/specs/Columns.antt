@@ -24,17 +24,17 @@ module _ (τ : Time) (b : Block) (within : StormWithin (unit_ordinates b) (rain_
 
   module _ {rains losses excesses sums : List ℕ} (c : ColumnsAre τ b rains losses excesses sums) where
     long : length excesses ≡ τ.ordinates
-    long = ap length c.excesses-are ∙ length-block-excess τ b
+    long = ap length c.excesses_are ∙ length-block-excess τ b
 
     pub columns-ruled : Ruled (unit_ordinates b) rains losses excesses
     columns-ruled =
         record {
-          rain-each = ap length c.rains-are ∙ length-block-rain τ b ∙ sym long;
+          rain-each = ap length c.rains_are ∙ length-block-rain τ b ∙ sym long;
           loss-each = ap length c.losses-are ∙ length-block-loss τ b ∙ sym long;
           units-up = within.units_up;
-          rains-up = rw c.rains-are rain_within;
+          rains-up = rw c.rains_are rain_within;
           losses-up = rw c.losses-are (λ (k : ℕ). omega (arith, rain_within k, block-loss_and_excess τ b k));
-          excesses-up = rw c.excesses-are (λ (k : ℕ). omega (arith, rain_within k, block-loss_and_excess τ b k));
+          excesses-up = rw c.excesses_are (λ (k : ℕ). omega (arith, rain_within k, block-loss_and_excess τ b k));
         }
 
     pub columns_long : (length sums ≡ length excesses) × (length excesses ≡ τ.ordinates)
@@ -43,6 +43,6 @@ module _ (τ : Time) (b : Block) (within : StormWithin (unit_ordinates b) (rain_
     pub columns-text : block_text τ.ratio b.name (ruled (unit_ordinates b) rains losses excesses) sums ≡ table_of Units τ b ++ table_of Customary τ b
     columns-text =
         let sheet : ruled (unit_ordinates b) rains losses excesses ≡ sheet_of τ b =
-        ruled_of (unit_ordinates b) rains losses excesses τ.ordinates long ∙ rw (c.rains-are, c.losses-are, c.excesses-are) in
+        ruled_of (unit_ordinates b) rains losses excesses τ.ordinates long ∙ rw (c.rains_are, c.losses-are, c.excesses_are) in
         ap (λ (s : Sheet). block_text τ.ratio b.name s sums) sheet ∙ ap (λ (q : List ℕ). block_text τ.ratio b.name (sheet_of τ b) q) c.sums-are
         ∙ append_assoc (table_of Units τ b) (title_line Customary τ.ratio b.name) (table_text Customary (sheet_of τ b) (column_sums (sheet_of τ b)))

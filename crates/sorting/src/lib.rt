@@ -1,4 +1,6 @@
 // What a line comes to where the reading stands, before its name or its fields are read: it is identified (4) and placed (5).
+#![tactic(auto)]
+
 ghost use Rattle.std.specs.Prelude.{◌≡◌, false};
 ghost use Rattle.meaning.specs.Lines.{foreign};
 ghost use Rattle.blocks.specs.Cards.{Readable};

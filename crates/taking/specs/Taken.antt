@@ -197,7 +197,7 @@ module _ (r : Reading) (item : Item) (s : Scanned) (w : List ℕ) where
           event =
               λ fs read.
               rw (t.number, place, ratio_number fs s (at_place due.0 read) (time_is r.time) due.1 inside) (ratio_event (no_ratio s.count s.values) refl x t fs (at_place due.0 read));
-          ready = λ z. timed_ready (t.reading z) ready.few-ordinates ready;
+          ready = λ z. timed_ready (t.reading z) ready.few_ordinates ready;
         }
 
     pub item_line : r.phase ≡ phase.InBlock → Due phase.InBlock (time_is r.time) item w → (refusal : ℕ) (w' : List ℕ)
@@ -211,7 +211,7 @@ module _ (r : Reading) (item : Item) (s : Scanned) (w : List ℕ) where
           ready =
               λ z.
               record {
-                few_ordinates = ready.few-ordinates;
+                few_ordinates = ready.few_ordinates;
                 few-ratios = ready.few-ratios;
                 short-name = ready.short-name;
                 readable = counted_readable t.kept;

@@ -1,4 +1,6 @@
 // A line's values taken, once its fields are read without a fault: into the time control, or into the open block.
+#![tactic(auto)]
+
 ghost use Rattle.std.specs.Prelude.{◌≡◌, ℕ, ◌≤◌, ◌<◌, List, length, get_or};
 ghost use Rattle.meaning.specs.Records.{most_ordinates};
 ghost use Rattle.records.specs.Rows.{items};

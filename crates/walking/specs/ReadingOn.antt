@@ -125,7 +125,7 @@ module _ (deck : List ℕ) (named place n m : ℕ) (s : State) (work ordinates r
       let start : Outside (reading_is s.reading cards) = rw at o in
       let end = subst FoundOutside found (found_outside lines (reading_is s.reading cards) (s.line + 1) start) in
       record {
-        held = held_moved (length g.results) s.reading.time.ordinates r.time.ordinates s.held work zero-all.2 ready.few-ordinates g.held;
+        held = held_moved (length g.results) s.reading.time.ordinates r.time.ordinates s.held work zero-all.2 ready.few_ordinates g.held;
         count = count_outside r.phase (time_is r.time) (form_of r.free) (block_is r cards') s.blocks (length g.results) s.held.depth end.1 zero-all;
         carried = carried_moved named place (time_at place (time_is s.reading.time)) (time_at place (time_is r.time)) n m g.results ordinates records zero-all.1 g.carried;
         listed = λ (h : s.reading.phase ≡ phase.InBlock). absurd (not_outside s.reading.phase (time_is s.reading.time) (form_of s.reading.free) (block_is s.reading cards) start h);
@@ -163,7 +163,7 @@ module _ (deck : List ℕ) (named place n m : ℕ) (s : State) (work ordinates r
   pub may_close : MayClose (reading_under place r) s.held s.blocks place work cards'
   may_close =
       record {
-        ready = record { few_ordinates = ready.few-ordinates; few-ratios = ready.few-ratios; short-name = ready.short-name; readable = ready.readable; counted = ready.counted };
+        ready = record { few_ordinates = ready.few_ordinates; few-ratios = ready.few-ratios; short-name = ready.short-name; readable = ready.readable; counted = ready.counted };
         within = within_at place r.phase (time_is r.time) (form_of r.free) (block_is r cards') limits.1;
         before = length g.results;
         held = moved.held;

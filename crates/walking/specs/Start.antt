@@ -24,7 +24,7 @@ module _ (deck : List ℕ) (named place : ℕ) (s : State) (work ordinates recor
         counted = rw b.line zero-le;
         ready = b.reading.ready;
         within = rw b.reading.is tt;
-        held = rw b.held (held_none s.reading.time.ordinates work b.reading.ready.few-ordinates enough);
+        held = rw b.held (held_none s.reading.time.ordinates work b.reading.ready.few_ordinates enough);
         count = rw (b.reading.phase, b.blocks, b.held) (refl, refl, refl);
         ratios = rw (b.reading.is, b.reading.phase, b.at) (refl, b.reading.none-listed);
         carried = record { names = tt; n-long = refl; m-long = refl; flow = no_flow ∙ c.flow; told = λ h. untold ∙ c.told h };

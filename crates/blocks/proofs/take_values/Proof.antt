@@ -21,14 +21,14 @@ record Place (item from to : ℕ) (w : List ℕ) : Type 0 where
   room : to - from - 1 ≡ room_of item
   fits : to ≤ length w
 
-place : (c : tie.After-start-of2)
-    → let x = c.before.before.before.before.args in Place x.item c.before.start_of_lem.result c.start-of2.result x.cards.now
+place : (c : tie.After-start_of-to)
+    → let x = c.args in Place x.item c.start_of-from.result c.start_of-to.result x.cards.now
 place c =
     let s = c.before.before.before.before in
     let h = next_start s.args.item (search rules) in
     let f = region_fits s.args.item s.args.cards.now (search rules) s.requires.1.1.long in
-    let e : c.start-of2.result ≡ c.before.start_of_lem.result + suc (room_of s.args.item) = omega (arith, c.before.start_of_lem.ensures, c.start-of2.ensures) in
-    record { begins = c.before.start_of_lem.ensures; ends = e; wide = omega arith; room = omega arith; fits = omega (arith, c.before.start_of_lem.ensures) }
+    let e : c.start_of-to.result ≡ c.start_of-from.result + suc (room_of s.args.item) = omega (arith, c.start_of-from.ensures, c.start_of-to.ensures) in
+    record { begins = c.start_of-from.ensures; ends = e; wide = omega arith; room = omega arith; fits = omega (arith, c.start_of-from.ensures) }
 
 in_region : {item from to : ℕ} {w : List ℕ} → Place item from to w → item < items → words_of table ≤ length w → part from (to - from) w ≡ region_of item w
 in_region {item} {from} {to} {w} p inside long = rw (p.wide, p.begins) (sym (region_part item w inside long))
@@ -38,35 +38,35 @@ record Counts (item count nq n most : ℕ) : Type 0 where
   own : n ≡ span_in (row_of item) count
   bound : most ≡ most_in (row_of item) nq
 
-counts : (c : tie.After-most-by)
-    → let x = c.before.before.before.before.before.before.before.args in Counts x.item x.count x.nq c.before.span-by.result c.most-by.result
+counts : (c : tie.After-most_by-most)
+    → let x = c.args in Counts x.item x.count x.nq c.span_by-n.result c.most_by-most.result
 counts c =
-    let x = c.before.before.before.before.before.before.before.args in
+    let x = c.args in
     let p = place c.before.before.before in
     record {
-      own = c.before.span-by.ensures ∙ rw (p.room, c.before.before.Way-of.ensures) (span-by (row_of x.item) x.count);
-      bound = c.most-by.ensures ∙ rw (p.room, c.before.before.Way-of.ensures) (most-by (row_of x.item) x.nq);
+      own = c.span_by-n.ensures ∙ rw (p.room, c.way_of-way.ensures) (span-by (row_of x.item) x.count);
+      bound = c.most_by-most.ensures ∙ rw (p.room, c.way_of-way.ensures) (most-by (row_of x.item) x.nq);
     }
 
-sub-room : tie.Need-overflow-sub-room
+sub-room : tie.Need-overflow_sub-room
 sub-room c = let p = place c in omega (arith, p.ends)
 
-sub-room-2 : tie.Need-overflow-sub-room-2
+sub-room-2 : tie.Need-overflow_sub-room-2
 sub-room-2 c = let p = place c in omega (arith, p.ends)
 
-mul-take-in : tie.Need-overflow-mul-take-in
+mul-take-in : tie.Need-offset_bounds-cards-from
 mul-take-in c = let p = place c.before.before.before in omega (arith, p.ends, p.fits)
 
-sub-take-in : tie.Need-overflow-sub-take-in
+sub-take-in : tie.Need-slice_bounds-take_in-count
 sub-take-in c = let p = place c.before.before.before in omega (arith, p.ends, p.fits)
 
-part-take-in-start : tie.Need-slice-bounds-take-in-start
+part-take-in-start : tie.Need-slice_bounds-take_in-start
 part-take-in-start c = let p = place c.before.before.before in omega (arith, p.ends, p.fits)
 
-part-take-in-end : tie.Need-slice-bounds-take-in-end
+part-take-in-end : tie.Need-slice_bounds-take_in-end
 part-take-in-end c = let p = place c.before.before.before in omega (arith, p.ends, p.fits)
 
-take-in-requires : tie.Need-take-in-requires
+take-in-requires : tie.Need-take_in-requires
 take-in-requires c κs =
     let s = c.before.before.before.before.before.before.before.before in
     let x = s.args in
@@ -86,13 +86,13 @@ returns c =
     let k = counts c.before.before.before.before in
     let q = in_region p (search rules) s.requires.1.1.long in
     let n = own_few x.item x.count (search rules) (search rules) in
-    let t = c.before.before.take_in in
+    let t = c.take_in in
     rw (p.wide, p.begins)
-    (takes x.item x.nq x.count x.values.now x.cards.now (search rules) s.requires.1.1 (omega (arith, n)) s.requires.1.0 t.result t.new.0
+    (takes x.item x.nq x.count x.values.now x.cards.now (search rules) s.requires.1.1 (omega (arith, n)) s.requires.1.0 t.result t.new.region
     (rw (q, k.own, k.bound) at t.ensures.0) (rw (q, k.own, k.bound) at t.ensures.1))
 
-pub take-values-spec : {M : Type 1} → statement M
-take-values-spec =
+pub take_values_spec : {M : Type 1} → statement M
+take_values_spec =
     tie.close
     (tie.spec
     (λ c κs. search rules) (λ c. search rules) (λ c κs. search rules) sub-room sub-room-2 (λ c κs. search rules) (λ c κs. search rules)

@@ -68,7 +68,7 @@ write-tables-requires c κs =
     let long = columns_long (τ got) (block got) (within got) columns in
     let letters : length (name got) ≡ (entry got).args.name.letters = length-take-le _ _ (short (entry got)) in (
       rw (got.values.ensures (name got)) (columns-ruled (τ got) (block got) (within got) columns),
-      (long.0, omega (arith, long.1, pre.0.time.few-ordinates), omega (arith, letters, pre.1.1.0), pre.1.1.1),
+      (long.0, omega (arith, long.1, pre.0.time.few_ordinates), omega (arith, letters, pre.1.1.0), pre.1.1.1),
     )
 
 returns : tie.Need-returns

@@ -17,7 +17,7 @@ lent n column long few = length-take-le n column (omega arith)
 write-columns-requires : tie.Need-write-columns-requires
 write-columns-requires c κs =
     let s = c.before.before.before.before.before.before.before.before.before.before.before in
-    let few = s.requires.0.time.few-ordinates in
+    let few = s.requires.0.time.few_ordinates in
     (s.requires.0, ((lent _ _ (search rules) few, lent _ _ (search rules) few, lent _ _ (search rules) few, lent _ _ (search rules) few), s.requires.1))
 
 pub write-runoff-spec : {M : Type 1} → statement M
@@ -29,13 +29,13 @@ write-runoff-spec =
     (λ c κs. search rules)  -- blank-column-requires-3
     (λ c κs. search rules)  -- blank-column-requires-4
     (λ c. search rules)  -- array-borrow-prefix-rains
-    (λ c. sym (lent _ _ (search rules) c.before.before.before.before.before.before.before.before.requires.0.time.few-ordinates))  -- slice-aggregate-write-columns
+    (λ c. sym (lent _ _ (search rules) c.before.before.before.before.before.before.before.before.requires.0.time.few_ordinates))  -- slice-aggregate-write-columns
     (λ c. search rules)  -- array-borrow-prefix-losses
-    (λ c. sym (lent _ _ (search rules) c.before.before.before.before.before.before.before.before.before.requires.0.time.few-ordinates))  -- slice-aggregate-write-columns-2
+    (λ c. sym (lent _ _ (search rules) c.before.before.before.before.before.before.before.before.before.requires.0.time.few_ordinates))  -- slice-aggregate-write-columns-2
     (λ c. search rules)  -- array-borrow-prefix-excesses
-    (λ c. sym (lent _ _ (search rules) c.before.before.before.before.before.before.before.before.before.before.requires.0.time.few-ordinates))  -- slice-aggregate-write-columns-3
+    (λ c. sym (lent _ _ (search rules) c.before.before.before.before.before.before.before.before.before.before.requires.0.time.few_ordinates))  -- slice-aggregate-write-columns-3
     (λ c. search rules)  -- array-borrow-prefix-sums
-    (λ c. sym (lent _ _ (search rules) c.before.before.before.before.before.before.before.before.before.before.before.requires.0.time.few-ordinates))  -- slice-aggregate-write-columns-4
+    (λ c. sym (lent _ _ (search rules) c.before.before.before.before.before.before.before.before.before.before.before.requires.0.time.few_ordinates))  -- slice-aggregate-write-columns-4
     write-columns-requires
     (λ c. search rules)  -- same-length
     (λ c. search rules))

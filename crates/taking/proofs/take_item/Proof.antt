@@ -16,25 +16,25 @@ place c = let x = c.args in due_inside x.r.phase (time_is x.r.time) x.item x.car
 due : (c : tie.Start) → Due phase.InBlock (time_is c.args.r.time) c.args.item c.args.cards.now
 due c = rw (place c) at c.requires.0.2
 
-returns : tie.Need-returns
+returns : tie.Need-returns-then-scan
 returns c =
     let s = c.before.before.before in
     let x = s.args in
-    item_outside x.r x.item (scanned_of x.values.now x.scan) x.cards.now (place s) (due s) c.if1.true
+    item_outside x.r x.item (scanned_of x.values.now x.scan) x.cards.now (place s) (due s) c.if-scan.true
 
-take-values-requires : tie.Need-take-values-requires
+take-values-requires : tie.Need-take_values-requires
 take-values-requires c κs =
     let s = c.before.before.before.before.before in
     let read = s.requires.1.read in
     ((s.requires.0.0, read.few, omega (arith, read.ten)), ((due s).1, s.requires.0.1.counted (place s)))
 
-returns-2 : tie.Need-returns-2
+returns-2 : tie.Need-returns
 returns-2 c =
     let s = c.before.before.before.before.before.before.before.before in
     let x = s.args in
-    let t = c.before.before.take-values in
-    item_line x.r x.item (scanned_of x.values.now x.scan) x.cards.now c.before.before.before.before.before.if1.false s.requires.0.1 (place s) (due s)
-    t.result t.new.0 t.ensures
+    let t = c.take_values in
+    item_line x.r x.item (scanned_of x.values.now x.scan) x.cards.now c.if-scan.false s.requires.0.1 (place s) (due s)
+    t.result t.new.cards t.ensures
 
-pub take-item-spec : {M : Type 1} → statement M
-take-item-spec = tie.close (tie.spec returns take-values-requires (λ c. search rules) returns-2)
+pub take_item_spec : {M : Type 1} → statement M
+take_item_spec = tie.close (tie.spec returns take-values-requires (λ c. search rules) returns-2)

@@ -112,7 +112,7 @@ end-deck-requires : tie.Need-end-deck-requires
 end-deck-requires c κs =
     let m = mark c.before.before.before in
     let long = (closed c.before.before.before).close_open.auto.1.1.1.1.0 in
-    record { deep = omega arith; ordinates = (onward m).ready.few-ordinates; enough = omega (arith, long, (entry (read m)).requires.held.fits.enough) }
+    record { deep = omega arith; ordinates = (onward m).ready.few_ordinates; enough = omega (arith, long, (entry (read m)).requires.held.fits.enough) }
 
 returns : tie.Need-returns
 returns c =

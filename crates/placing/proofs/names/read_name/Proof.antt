@@ -10,35 +10,35 @@ use borrow.Author.Rules.{rules}
 use Rattle.placing.proofs.names.read_name.Statement.{statement}
 use Rattle.placing.proofs.names.read_name.Tie as tie
 
-found : (c : tie.After-name-span) → NameAt (form_of c.before.before.args.free) c.before.before.args.l.now c.name-span.result
-found c = name-found (form_of c.before.before.args.free) c.before.before.args.l.now c.before.before.requires c.name-span.result c.name-span.ensures
+found : (c : tie.After-name_span-span) → NameAt (form_of c.args.free) c.args.l.now c.name_span-span.result
+found c = name-found (form_of c.args.free) c.args.l.now c.requires c.name_span-span.result c.name_span-span.ensures
 
-sub-f : tie.Need-overflow-sub-f
+sub-f : tie.Need-slice_bounds-f-count
 sub-f c = let n = found c in omega arith
 
-part-f-start : tie.Need-slice-bounds-f-start
+part-f-start : tie.Need-slice_bounds-f-start
 part-f-start c = let n = found c in omega arith
 
-part-f-end : tie.Need-slice-bounds-f-end
+part-f-end : tie.Need-slice_bounds-f-end
 part-f-end c = let n = found c in omega arith
 
-returns : tie.Need-returns
+returns : tie.Need-returns-then-bad_name
 returns c =
     let n = found c.before.before.before.before in
-    record { bad = sym c.before.if1.true ∙ c.before.before.bad-name.ensures ∙ ap bad_name n.name; same = λ z. absurd (true≢false z); short = c.no_name.ensures.1 }
+    record { bad = sym c.if-bad_name.true ∙ c.bad_name.ensures ∙ ap bad_name n.name; same = λ z. absurd (true≢false z); short = c.no_name.ensures.1 }
 
-copy-name-requires : tie.Need-copy-name-requires
+copy-name-requires : tie.Need-copy_name-requires
 copy-name-requires c κs =
-    let f = c.before.before.f in
-    name_short _ (sym c.before.bad-name.ensures ∙ c.if1.false)
+    let f = c.f-1 in
+    name_short _ (sym c.bad_name.ensures ∙ c.if-bad_name.false)
 
-returns-2 : tie.Need-returns-2
+returns-2 : tie.Need-returns
 returns-2 c =
     let n = found c.before.before.before.before in
-    record { bad = sym c.before.if1.false ∙ c.before.before.bad-name.ensures ∙ ap bad_name n.name; same = λ z. c.copy_name.ensures.0 ∙ n.name; short = c.copy_name.ensures.1 }
+    record { bad = sym c.if-bad_name.false ∙ c.bad_name.ensures ∙ ap bad_name n.name; same = λ z. c.copy_name.ensures.0 ∙ n.name; short = c.copy_name.ensures.1 }
 
-pub read-name-spec : {M : Type 1} → statement M
-read-name-spec =
+pub read_name_spec : {M : Type 1} → statement M
+read_name_spec =
     tie.close
     (tie.spec
     (λ c κs. search rules) sub-f part-f-start part-f-end (λ c κs. search rules) (λ c κs. search rules) returns copy-name-requires returns-2)

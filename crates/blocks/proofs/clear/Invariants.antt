@@ -1,0 +1,16 @@
+-- After each turn one head more is 0.
+use Prim.Native.Nat.{◌-◌, ◌≤◌}
+use mathlib.Core.Path.{◌≡◌, refl}
+use native.Mathlib.Omega.{arith}
+use borrow.Author.Rules.{rules}
+use lib.ListN.{length, length-set}
+use Rattle.records.specs.Rows.{items}
+use Rattle.blocks.specs.Taking.{region_fits}
+use Rattle.blocks.specs.Clearing.{Clear, clear_next, clear-block, clear_kept}
+use Rattle.blocks.proofs.clear.Given as goal
+
+abbrev pub invariant-loop-item : goal.invariant-loop-item
+invariant-loop-item l = (l.item ≤ items) × (length l.cards ≡ length l.initial.cards) × Clear l.item l.cards
+
+abbrev pub decreases-loop-item : goal.decreases-loop-item
+decreases-loop-item l = items - l.item

@@ -1,0 +1,15 @@
+-- The rows from a place on have the key where all of them do.
+use Prim.Native.Nat.{◌-◌, ◌≤◌}
+use mathlib.Core.Path.{◌≡◌, refl, sym, ◌∙◌}
+use borrow.Author.Rules.{rules}
+use lib.ListN.{drop}
+use Rattle.meaning.specs.Records.{table}
+use Rattle.records.specs.Rows.{items}
+use Rattle.records.specs.Keys.{place_from, place_of, place_found, place-next, place_none}
+use Rattle.records.proofs.place_of.Given as goal
+
+abbrev pub invariant-loop-i : goal.invariant-loop-i
+invariant-loop-i l = (l.i ≤ items) × (place_from (drop l.i table) l.i l.key ≡ place_from table 0 l.key)
+
+abbrev pub decreases-loop-i : goal.decreases-loop-i
+decreases-loop-i l = items - l.i

@@ -1,0 +1,9 @@
+-- By the form.
+use borrow.Author.Rules.{rules}
+use Rattle.scanning.proofs.blank_span.Goals as goal
+
+pub returns-then-free : goal.returns-then-free
+returns-then-free c = rw c.if-free.true
+
+pub returns : goal.returns
+returns c = rw c.if-free.false
