@@ -1,4 +1,6 @@
 // Reading a deck from line to line, to the next event: a line that is refused, opens a block or ends the deck. It knows no hydrograph.
+#![tactic(auto)]
+
 ghost use Rattle.std.specs.Prelude.{◌≤◌, length};
 ghost use Rattle.placing.specs.Readings.{reading_is, Ready};
 ghost use Rattle.reading.specs.Found.{Gets};

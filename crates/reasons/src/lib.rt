@@ -1,5 +1,7 @@
 // Why a line is refused by 6 or by 7, in print: the first field that is, its rule and what stands in it, or the name of a block. The rules are those that the reading
 // goes by. Each function that writes answers the place behind what it wrote.
+#![tactic(auto)]
+
 ghost use Rattle.std.specs.Prelude.{◌≡◌, false, [], ◌∷◌, ◌++◌, suc, ◌+◌, ◌≤◌, ◌<◌, max, length};
 ghost use Rattle.meaning.specs.Lines.{lf, blank, foreign};
 ghost use Rattle.meaning.specs.Fields.{fields_of, name_in};

@@ -10,31 +10,31 @@ use Rattle.reasons.proofs.is_refused.Tie as tie
 
 -- WHAT WAS READ, by the variant that was found
 abbrev Read : Type 0
-Read = tie.After-read-field
+Read = tie.After-read_field
 
 abbrev Is : Read → Field → Type 0
-Is c x = let y = c.before.before.args in FieldIs x (faulty_field (rule_by y.rule) y.f.now) (outside_field (rule_by y.rule) y.f.now) (value_of (rule_by y.rule) y.f.now)
+Is c x = let y = c.args in FieldIs x (faulty_field (rule_by y.rule) y.f.now) (outside_field (rule_by y.rule) y.f.now) (value_of (rule_by y.rule) y.f.now)
 
-is : (c : Read) (x : Field) → c.read-field.result ≡ x → Is c x
-is c x e = subst (Is c) e c.read-field.ensures
+is : (c : Read) (x : Field) → c.read_field.result ≡ x → Is c x
+is c x e = subst (Is c) e c.read_field.ensures
 
-returns : tie.Need-returns
+returns : tie.Need-returns-then-six
 returns c =
-    let read = c.before.before.before.before in
-    let y = read.before.before.args in
-    refused-six (rule_by y.rule) y.f.now y.six c.if1.true (is read _ c.before.before.outside.given.1).0
-
-returns-2 : tie.Need-returns-2
-returns-2 c =
     let read = c.before.before in
-    let y = read.before.before.args in
-    refused_faulty (rule_by y.rule) y.f.now y.six (is read _ c.enum_told.given.1)
+    let y = read.args in
+    refused-six (rule_by y.rule) y.f.now y.six c.if-six.true (is read _ c.in-Value.is).0
 
-returns-3 : tie.Need-returns-3
+returns-2 : tie.Need-returns-in-Faulty
+returns-2 c =
+    let read = c.before in
+    let y = read.args in
+    refused_faulty (rule_by y.rule) y.f.now y.six (is read _ c.in-Faulty.is)
+
+returns-3 : tie.Need-returns-else-six
 returns-3 c =
-    let read = c.before.before.before.before in
-    let y = read.before.before.args in
-    refused-seven (rule_by y.rule) y.f.now y.six _ c.if1.false (is read _ c.before.before.outside.given.1).1
+    let read = c.before.before in
+    let y = read.args in
+    refused-seven (rule_by y.rule) y.f.now y.six _ c.if-six.false (is read _ c.in-Value.is).1
 
-pub is-refused-spec : {M : Type 1} → statement M
-is-refused-spec = tie.close (tie.spec (λ c κs. search rules) (λ c. search rules) (λ c. search rules) returns returns-2 returns-3)
+pub is_refused_spec : {M : Type 1} → statement M
+is_refused_spec = tie.close (tie.spec (λ c κs. search rules) (λ c. search rules) (λ c. search rules) returns returns-2 returns-3)

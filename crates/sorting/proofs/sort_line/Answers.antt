@@ -8,57 +8,40 @@ place_record-requires c = (rw c.in-Holds.is at c.head_of.ensures.1, c.requires.1
 
 pub returns-in-Skipped : goal.returns-in-Skipped
 returns-in-Skipped c =
-    let s = c in
     let h = c.head_of in
-    skipped s.args.r s.args.cards.now s.args.l.now s.requires.0 h.result h.ensures.0 c.in-Skipped.is
+    skipped c.args.r c.args.cards.now c.args.l.now c.requires.0 h.result h.ensures.0 c.in-Skipped.is
 
 pub returns-in-Unknown : goal.returns-in-Unknown
 returns-in-Unknown c =
-    let s = c in
     let h = c.head_of in
-    unknown s.args.r s.args.cards.now s.args.l.now s.requires.0 h.result h.ensures.0 c.in-Unknown.is
+    unknown c.args.r c.args.cards.now c.args.l.now c.requires.0 h.result h.ensures.0 c.in-Unknown.is
 
 pub returns-in-Misplaced : goal.returns-in-Misplaced
 returns-in-Misplaced c =
-    let p = c in
-    let s = p in
-    let h = p.head_of in
-    let k = p.k-1 in
-    misplaced s.args.r s.args.cards.now s.args.l.now s.requires.0 h.result h.ensures.0 k.given.0.0 k.given.1
-    p.place_record.result p.place_record.ensures.0 c.in-Misplaced.is
+    let h = c.head_of in
+    misplaced c.args.r c.args.cards.now c.args.l.now c.requires.0 h.result h.ensures.0 c.in-Holds.k c.in-Holds.is
+    c.place_record.result c.place_record.ensures.0 c.in-Misplaced.is
 
 pub returns-in-Passed : goal.returns-in-Passed
 returns-in-Passed c =
-    let p = c in
-    let s = p in
-    let h = p.head_of in
-    let k = p.k-1 in
-    passed s.args.r s.args.cards.now s.args.l.now s.requires.0 h.result h.ensures.0 k.given.0.0 k.given.1
-    p.place_record.result p.place_record.ensures.0 c.in-Passed.free c.in-Passed.is
+    let h = c.head_of in
+    passed c.args.r c.args.cards.now c.args.l.now c.requires.0 h.result h.ensures.0 c.in-Holds.k c.in-Holds.is
+    c.place_record.result c.place_record.ensures.0 c.in-Passed.free c.in-Passed.is
 
 pub returns-in-Named : goal.returns-in-Named
 returns-in-Named c =
-    let p = c in
-    let s = p in
-    let h = p.head_of in
-    let k = p.k-1 in
-    with_name s.args.r s.args.cards.now s.args.l.now s.requires.0 h.result h.ensures.0 k.given.0.0 k.given.1
-    p.place_record.result p.place_record.ensures.0 c.in-Named.is
+    let h = c.head_of in
+    with_name c.args.r c.args.cards.now c.args.l.now c.requires.0 h.result h.ensures.0 c.in-Holds.k c.in-Holds.is
+    c.place_record.result c.place_record.ensures.0 c.in-Named.is
 
 pub returns-in-Last : goal.returns-in-Last
 returns-in-Last c =
-    let p = c in
-    let s = p in
-    let h = p.head_of in
-    let k = p.k-1 in
-    last s.args.r s.args.cards.now s.args.l.now s.requires.0 h.result h.ensures.0 k.given.0.0 k.given.1
-    p.place_record.result p.place_record.ensures.0 c.in-Last.is
+    let h = c.head_of in
+    last c.args.r c.args.cards.now c.args.l.now c.requires.0 h.result h.ensures.0 c.in-Holds.k c.in-Holds.is
+    c.place_record.result c.place_record.ensures.0 c.in-Last.is
 
 pub returns-in-Fields : goal.returns-in-Fields
 returns-in-Fields c =
-    let p = c in
-    let s = p in
-    let h = p.head_of in
-    let k = p.k-1 in
-    with_fields s.args.r s.args.cards.now s.args.l.now s.requires.0 h.result h.ensures.0 k.given.0.0 k.given.1
-    p.place_record.result p.place_record.ensures.0 c.in-Fields.item c.in-Fields.is p.place_record.ensures.1
+    let h = c.head_of in
+    with_fields c.args.r c.args.cards.now c.args.l.now c.requires.0 h.result h.ensures.0 c.in-Holds.k c.in-Holds.is
+    c.place_record.result c.place_record.ensures.0 c.in-Fields.item c.in-Fields.is c.place_record.ensures.1
