@@ -3,7 +3,7 @@ use Rattle.std.specs.Prelude.{ℕ, ◌-◌, ◌≡◌, refl, List, [], ◌∷◌
 use Rattle.meaning.specs.Words.{bytes}
 use Rattle.meaning.specs.Water.{list_from}
 use Rattle.meaning.specs.Run.{Worked, Stopped, Done, worked}
-use Rattle.meaning.specs.Sheet.{Sheet, sheet_of, brings, column_sums, inch_millionths, cfs_millionths, six_places, sheet}
+use Rattle.meaning.specs.Sheet.{sheet_of, brings, column_sums, inch_millionths, cfs_millionths, six_places, sheet}
 use Rattle.meaning.specs.Computing.{computing}
 use Rattle.meaning.specs.Pond.{pond, Row, row, Agree, time_under, block_at, flow_under, rain_under, loss_under, excess_under}
 

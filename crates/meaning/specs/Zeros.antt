@@ -2,14 +2,12 @@
 -- Tables, by computation.
 use Rattle.std.specs.Prelude.{ℕ, ◌≡◌, refl, List, [], ◌∷◌, ◌++◌}
 use Prim.Native.String.{String}
-use Rattle.std.proofs.Common.{sym, ap, ◌∙◌}
-use Rattle.meaning.specs.Words.{if◌then◌else◌, bytes, met}
+use Rattle.meaning.specs.Words.{bytes, met}
 use Rattle.meaning.specs.Numbers.{Number, NoNumber, Decimal, number_of}
 use Rattle.meaning.specs.Records.{Item, BA, PI, LU, UI, QI, HC, RM, PB, RS, SV, SQ}
 use Rattle.meaning.specs.Blocks.{Block, Given, values_of, opened, card_of, with_card}
 use Rattle.meaning.specs.Results.{Result}
 use Rattle.meaning.specs.Run.{Worked, Stopped, Done, worked}
-use Rattle.meaning.specs.Listing.{listing_by, listing}
 use Rattle.meaning.specs.Computing.{computing}
 use Rattle.meaning.specs.Pond.{pond, Row, row, Agree, refusal_in, time_in, block_at}
 
@@ -82,7 +80,7 @@ all_digits =
     (refl, (refl, (refl, (refl, (refl, (refl, (refl, (refl, (refl, (refl, (refl, (refl, (refl, (refl, tt))))))))))))))
 
 -- THE RECORDS. Document 01's deck with zeros past the places of every number, in free form and in columns.
-abbrev zeroed : List ℕ
+abbrev pub zeroed : List ℕ
 zeroed =
     bytes "ID POND\n" ++
     bytes "*FREE\n" ++
@@ -100,7 +98,7 @@ zeroed =
     bytes "HC 2.0\n" ++
     bytes "ZZ\n"
 
-abbrev zeroed_columns : List ℕ
+abbrev pub zeroed_columns : List ℕ
 zeroed_columns =
     bytes "ID POND\n" ++
     bytes "IT  60.0                    4.00\n" ++
@@ -149,10 +147,10 @@ unfolding computing
 as_printed = refl
 
 -- The records that it lacks, JR, PB and a pond's: a basin and a pond behind it, in as few digits as may be and with zeros past the places.
-abbrev storm : List ℕ
+abbrev pub storm : List ℕ
 storm = bytes "*FREE\nIT 60,,,2\nJR PREC,.5,1\nKK A\nBA 1.5\nPB 1\nPI 1,2\nLU .1,.1\nUI 17.1\nKK P\nRS 1,STOR\nSV 0,1\nSQ 0,10\nZZ\n"
 
-abbrev zeroed_storm : List ℕ
+abbrev pub zeroed_storm : List ℕ
 zeroed_storm =
     bytes "*FREE\nIT 60.0,,,2.0\nJR PREC,0.500,1.0000\n" ++
     bytes "KK A\nBA 1.500\nPB 1.00000\nPI 1.00000,2.00000\nLU 0.10000,0.10000,0.000\nUI 17.100\n" ++
@@ -182,20 +180,6 @@ storm_with_zeros = refl
 pub storm_without : worked storm ≡ storm_done
 unfolding computing
 storm_without = refl
-
--- TWO DECKS THAT DIFFER IN TRAILING ZEROS ALONE are worked to the same, and so listed alike. (What each is worked to stands between them, since that is quick to check.)
-pub same_worked : worked zeroed ≡ worked pond
-same_worked = in_free_form ∙ sym as_printed
-
-pub same_in_columns : worked zeroed_columns ≡ worked pond
-same_in_columns = in-columns ∙ sym as_printed
-
-pub same_storm : worked zeroed_storm ≡ worked storm
-same_storm = storm_with_zeros ∙ sym storm_without
-
-pub same_listing : listing zeroed ≡ listing pond
-unfolding listing if◌then◌else◌
-same_listing = ap listing_by same_worked
 
 -- WHAT IS REFUSED STILL, and what is just within its limits. Decks with these fields on IT, on line 2; with these ratios on line 3; with these values for rain, or for an inflow.
 abbrev timed : String → List ℕ

@@ -1,0 +1,2 @@
+-- Theorems that rest on others.
+pub mod SameZeros
