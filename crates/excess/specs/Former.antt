@@ -4,7 +4,7 @@
 --     former_at_most        all intervals together leave less by the initial loss at most
 --     none_before           while no more has fallen than the initial loss, neither rule leaves anything
 --     former_once-filled    behind the intervals that fill the initial loss the former rule left what is left now (Balance, once-filled)
-use Rattle.std.specs.Prelude.{ℕ, zero, suc, ◌+◌, ◌-◌, ◌≤◌, ◌<◌, min, ◌≡◌, refl, List, [], ◌∷◌, ◌++◌, length, get_or, replicate}
+use Rattle.std.specs.Prelude.{ℕ, zero, suc, ◌+◌, ◌-◌, ◌≤◌, ◌<◌, min, ◌≡◌, refl, List, [], ◌∷◌, ◌++◌, get_or}
 use Rattle.std.proofs.Common.{sym, ap, ◌∙◌, ⊎_elim, mul-le-mul_left, arith, le-leb}
 use Rattle.std.proofs.lemmas.Bool.{lt-leb}
 use Rattle.sequences.specs.Choices.{below_or_not}

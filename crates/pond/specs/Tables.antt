@@ -9,7 +9,7 @@ use Rattle.std.specs.Prelude.{ℕ, zero, suc, ◌+◌, ◌*◌, ◌≤◌, ◌<�
 use Rattle.std.proofs.Common.{ap, mul-zero, mul-le-mul_left, add-one, arith}
 use Rattle.std.proofs.Math.Bool.{not}
 use Rattle.std.proofs.Math.ListN.{length}
-use borrow.Author.Tests.{ltb-false, leb-false, eqb-true, not_false}
+use borrow.Author.Tests.{ltb-false, leb-false, eqb-true, not-false}
 use Rattle.sequences.specs.Bounds.{AllUpTo}
 use Rattle.sequences.specs.Choices.{both_fail}
 use Rattle.meaning.specs.Words.{◌=?◌, ◌≤?◌, ◌<?◌}
@@ -28,7 +28,7 @@ module _ (m : ℕ) (svs sqs : List ℕ) (t : PondTable m svs sqs) where
   parts =
       let apart = both_fail ((length (rows_of svs sqs) <? 2) || not (length svs =? length sqs)) (rules_break m (rows_of svs sqs)) t.whole in
       let counts = both_fail (length (rows_of svs sqs) <? 2) (not (length svs =? length sqs)) apart.0 in
-      (ltb-false (length (rows_of svs sqs)) 2 counts.0, eqb-true (length svs) (length sqs) (not_false _ counts.1), apart.1)
+      (ltb-false (length (rows_of svs sqs)) 2 counts.0, eqb-true (length svs) (length sqs) (not-false _ counts.1), apart.1)
 
   pub two_rows : 2 ≤ length (rows_of svs sqs)
   two_rows = parts.0
@@ -72,8 +72,8 @@ unfolding w_of
 rules_kept m row rows e =
     let apart = both_fail (starts_elsewhere row) (rows_break m row rows) e in
     let start = both_fail (not (row.v =? 0)) (not (row.q =? 0)) apart.0 in
-    let v : row.v ≡ 0 = eqb-true row.v 0 (not_false _ start.0) in
-    let q : row.q ≡ 0 = eqb-true row.q 0 (not_false _ start.1) in
+    let v : row.v ≡ 0 = eqb-true row.v 0 (not-false _ start.0) in
+    let q : row.q ≡ 0 = eqb-true row.q 0 (not-false _ start.1) in
     let one : m * row.q ≡ 0 = rw q (mul-zero m) in
     let two : 2 * m * row.q ≡ 0 = rw q (mul-zero (2 * m)) in
     (omega arith, record { held = omega arith; rules = apart.1 })

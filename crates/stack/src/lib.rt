@@ -1,5 +1,7 @@
 // The hydrographs held: their areas by value and their ordinates in the lent work words, as many words to a place as a hydrograph has at most. A function for each
 // kind of block works on those held last, in the part of the work words from their place on.
+#![tactic(auto)]
+
 ghost use Rattle.std.specs.Prelude.{◌≡◌, ◌∷◌, ℕ, ◌+◌, ◌-◌, ◌*◌, ◌≤◌, ◌<◌, ◌^◌, length, take, drop, get_or};
 ghost use Rattle.sequences.specs.Bounds.{AllUpTo};
 ghost use Rattle.sequences.specs.Parts.{part, put};

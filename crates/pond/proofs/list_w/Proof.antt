@@ -32,28 +32,28 @@ loop-holds : tie.Need-loop-i-init invariant-loop decreases-loop
 loop-holds c = let x = (entry c).args in (omega arith, rewritten_none (w_at x.m x.svs.now x.sqs.now) c.blank_ws-ws.result 0 refl)
 
 w-at-requires : tie.Need-w_at-requires invariant-loop decreases-loop
-w-at-requires c κs = record { pond_table = (entry c.before.before).pre; row_in_bounds = omega arith }
+w-at-requires c κs = ((entry c.before.before).requires, omega arith)
 
 -- There is room for every row, and for one place behind the last.
-room : (c : tie.After-w_at invariant-loop decreases-loop) → ((at-loop c).loop.i < 20) × (length (at-loop c).blank_ws-ws.result ≡ 21)
-room c = (omega (arith, (entry (at-loop c).before).pre.few), rw (at-loop c).blank_ws-ws.ensures (length-replicate 21 no_w))
+room : (c : tie.After-w_at invariant-loop decreases-loop) → ((at-loop c).loop-i.i < 20) × (length (at-loop c).blank_ws-ws.result ≡ 21)
+room c = (omega (arith, (entry (at-loop c).before).requires.few), rw (at-loop c).blank_ws-ws.ensures (length-replicate 21 no_w))
 
 array-write-ws : tie.Need-bounds-ws-i invariant-loop decreases-loop
-array-write-ws c = omega (arith, room c, (at-loop c).loop.invariant.1.long)
+array-write-ws c = omega (arith, room c, (at-loop c).loop-i.invariant.1.long)
 
 loop-again : tie.Need-loop-i-preserved invariant-loop decreases-loop
 loop-again c =
     let x = (entry (at-loop c).before).args in
-    let l = (at-loop c).loop in
+    let l = (at-loop c).loop-i in
     let blank = (at-loop c).blank_ws-ws.result in
-    (omega arith, rewritten_more (w_at x.m x.svs.now x.sqs.now) blank l.ws l.i _ l.inv.1 (omega (arith, room c)) c.w_at.ensures)
+    (omega arith, rewritten_more (w_at x.m x.svs.now x.sqs.now) blank l.ws l.i _ l.invariant.1 (omega (arith, room c)) c.w_at.ensures)
 
 returns : tie.Need-returns invariant-loop decreases-loop
 returns c =
     let start = c.before.before in
     let s = entry start in
     let l = c.loop-i in
-    ws_listed s.args.m s.args.svs.now s.args.sqs.now s.pre start.blank_ws-ws.result l.ws l.i start.blank_ws-ws.ensures (omega arith) l.invariant.1
+    ws_listed s.args.m s.args.svs.now s.args.sqs.now s.requires start.blank_ws-ws.result l.ws l.i start.blank_ws-ws.ensures (omega arith) l.invariant.1
 
 pub list_w_spec : {M : Type 1} → statement M
 list_w_spec =

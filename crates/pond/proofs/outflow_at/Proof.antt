@@ -27,8 +27,8 @@ products : (c : tie.After-plain-x) → let s = (start c).args.s in let x = c.pla
     (s.more * (x / s.rise) ≤ 6_000_000_000_000) × (s.more * (x % s.rise) ≤ 289_199_985_480_000_000)
 products c =
     let s = start c in
-    let up : c.plain-x.result ≤ 600_000 * s.args.s.rise = omega (arith, c.plain-x.ensures, s.pre.1.whole) in
-    graded_products s.args.s s.args.w s.pre.1 c.plain-x.result up
+    let up : c.plain-x.result ≤ 600_000 * s.args.s.rise = omega (arith, c.plain-x.ensures, s.requires.1.whole) in
+    graded_products s.args.s s.args.w s.requires.1 c.plain-x.result up
 
 round-down-requires : tie.Need-round_down-requires
 round-down-requires c κs =
@@ -38,7 +38,7 @@ round-down-requires c κs =
 
 add-result-3 : tie.Need-overflow_add-result-3
 add-result-3 c =
-    let share = (at-share c).plain2 in
+    let share = (at-share c).plain-share in
     let g = (start (at_x c)).requires.1 in
     omega (arith, c.round_down.ensures, share.ensures, div-le_self share.result (start (at_x c)).args.s.rise, products (at_x c), g.out_up)
 
@@ -46,7 +46,7 @@ returns-2 : tie.Need-returns
 returns-2 c =
     let s = start (at_x c) in
     let on : s.args.w ≤ s.args.s.high = omega arith in
-    graded_on s.args.s s.args.w s.pre.1 _ _ _ on (at_x c).plain.ensures (at-share c).plain2.ensures c.round_down.ensures
+    graded_on s.args.s s.args.w s.requires.1 _ _ _ on (at_x c).plain-x.ensures (at-share c).plain-share.ensures c.round_down.ensures
 
 pub outflow_at_spec : {M : Type 1} → statement M
 outflow_at_spec =

@@ -55,14 +55,14 @@ two s =
     let m = s.args.m in
     let svs = s.args.svs.now in
     let sqs = s.args.sqs.now in
-    let t = s.requires.pond_table in
+    let t = s.requires.0 in
     omega (arith, two_rows m svs sqs t, count_rows svs sqs (paired m svs sqs t))
 
 span-at-requires : tie.Need-span_at-s-requires invariant-loop decreases-loop
 span-at-requires c κs =
     let s = c.before.before.before.before.before in
     let x = s.args in
-    row_listed x.m x.svs.now x.sqs.now s.requires.pond_table x.ws.now x.rises.now s.requires.ws_of.0 s.requires.ws_of.1.0 0 (two s)
+    row_listed x.m x.svs.now x.sqs.now s.requires.0 x.ws.now x.rises.now s.requires.1.0 s.requires.1.1.0 0 (two s)
 
 loop-holds : tie.Need-loop-i-init invariant-loop decreases-loop
 loop-holds c =
@@ -72,11 +72,11 @@ loop-holds c =
       some = omega arith;
       up = omega arith;
       long = refl;
-      flows = s.pre.1.1.1.1;
+      flows = s.requires.1.1.1.1;
       in_up = omega arith;
       low = omega arith;
       held = omega (arith, mul-zero (2 * x.m));
-      span = rw c.span_at-s.ensures (span_listed x.m x.svs.now x.sqs.now s.pre.0 x.ws.now x.rises.now s.pre.1.0 s.pre.1.1.0 0 (two s));
+      span = rw c.span_at-s.ensures (span_listed x.m x.svs.now x.sqs.now s.requires.0 x.ws.now x.rises.now s.requires.1.0 s.requires.1.1.0 0 (two s));
       done = refl;
       above = refl;
     }
@@ -85,12 +85,12 @@ loop-holds c =
 sought : (l : tie.At-loop-i invariant-loop decreases-loop) → let x = (entry l.before).args in Sought x.m x.svs.now x.sqs.now x.ws.now x.rises.now l.loop-i.s
 sought l =
     let s = entry l.before in
-    record { table = s.pre.0; levels = s.pre.1.0; steps = s.pre.1.1.0; span = l.loop-i.invariant.span }
+    record { table = s.requires.0; levels = s.requires.1.0; steps = s.requires.1.1.0; span = l.loop-i.invariant.span }
 
 w-after-requires : tie.Need-w_after-w-requires invariant-loop decreases-loop
 w-after-requires c κs =
     let l = c.before.before in
-    let pre = (entry l.before).pre in
+    let pre = (entry l.before).requires in
     let t = pre.0 in
     let v = l.loop-i.invariant in
     (omega (arith, v.up, v.low, pre.1.1.1.0), record { minutes = t.minutes; old_up = omega (arith, v.in_up); new_up = v.flows l.loop-i.i; held = omega (arith, v.held) })
@@ -105,7 +105,7 @@ outflow-at-requires : tie.Need-outflow_at-old_out-requires invariant-loop decrea
 outflow-at-requires c κs =
     let l = c.before.before.before.before.before in
     let s = entry l.before in
-    (s.pre.0.minutes, found_graded s.args.m s.args.svs.now s.args.sqs.now s.pre.0 _ _ (c.seek-s.ensures s.args.m (sought l)))
+    (s.requires.0.minutes, found_graded s.args.m s.args.svs.now s.args.sqs.now s.requires.0 _ _ (c.seek-s.ensures s.args.m (sought l)))
 
 loop-again : tie.Need-loop-i-preserved invariant-loop decreases-loop
 loop-again c =
@@ -114,17 +114,17 @@ loop-again c =
     let svs = s.args.svs.now in
     let sqs = s.args.sqs.now in
     let rows = rows_of svs sqs in
-    let t = s.pre.0 in
-    let l = (at-loop c).loop in
-    let v = l.inv in
+    let t = s.requires.0 in
+    let l = (at-loop c).loop-i in
+    let v = l.invariant in
     let w = c.w_after-w.result in
     let ew = c.w_after-w.ensures in
     let found = c.seek-s.ensures m (sought (at-loop c)) in
     let span = c.seek-s.result in
     let o = c.outflow_at-old_out.result in
     let eo : o ≡ outflow_at m rows w = c.outflow_at-old_out.ensures ∙ found_outflow m svs sqs t span w found in
-    let interval : Interval m (pool_of l.w l.old-in l.old-out) (get_or l.q l.i 0) = record { minutes = t.minutes; old_up = v.in_up; new_up = v.flows l.i; held = v.held } in
-    let grown = w-after_limit m (pool_of l.w l.old-in l.old-out) (get_or l.q l.i 0) interval in
+    let interval : Interval m (pool_of l.w l.old_in l.old_out) (get_or l.q l.i 0) = record { minutes = t.minutes; old_up = v.in_up; new_up = v.flows l.i; held = v.held } in
+    let grown = w-after_limit m (pool_of l.w l.old_in l.old_out) (get_or l.q l.i 0) interval in
     let flow : o ≤ flow_limit = rw eo (le_trans (outflow_last m rows (ruled m svs sqs t) w) (row_flow m svs sqs t (length rows - 1))) in
     let over : c.is_over-over.result ≡ ((last_w m rows <? w) || l.over) = c.is_over-over.ensures ∙ ap (λ (b : Bool). b || l.over) (found-over m svs sqs t span w found) in
     record {
@@ -136,8 +136,8 @@ loop-again c =
       low = omega (arith, ew, grown, v.low);
       held = rw eo (outflow_under m rows (ruled m svs sqs t) w);
       span = found.at;
-      done = outflow_turn m rows l.q l.i l.w l.old-in l.old-out w _ o _ (omega arith) ew (omega arith) eo (omega arith) ∙ v.done;
-      above = above_turn m rows l.q l.i l.w l.old-in l.old-out w _ o _ (omega arith) ew (omega arith) eo l.over _ over ∙ v.above;
+      done = outflow_turn m rows l.q l.i l.w l.old_in l.old_out w _ o _ (omega arith) ew (omega arith) eo (omega arith) ∙ v.done;
+      above = above_turn m rows l.q l.i l.w l.old_in l.old_out w _ o _ (omega arith) ew (omega arith) eo l.over _ over ∙ v.above;
     }
 
 returns : tie.Need-returns invariant-loop decreases-loop
@@ -145,7 +145,8 @@ returns c =
     let l = c.loop-i in
     let v = l.invariant in
     let past : length l.q ≤ l.i = omega (arith, v.long) in
-    let none : drop l.i l.q ≡ [] = drop_of_length-le l.q past in record { q_after = sym (overwrite_done (outflows_after _ _ (pool_of l.w l.old-in l.old-out)) l.q l.i past refl) ∙ v.done; over = sym (or-false l.over) ∙ rw none at v.above }
+    let none : drop l.i l.q ≡ [] = drop_of_length-le l.q past in
+    (sym (overwrite_done (outflows_after c.args.m (rows_of c.args.svs.now c.args.sqs.now) (pool_of l.w l.old_in l.old_out)) l.q l.i past refl) ∙ v.done, sym (or-false l.over) ∙ rw none at v.above)
 
 pub pass_on_spec : {M : Type 1} → statement M
 pass_on_spec =

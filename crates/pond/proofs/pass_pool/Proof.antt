@@ -31,10 +31,10 @@ pass-on-requires c κs =
     let s = entry (ws-made c) in
     let q = s.args.q.now in
     let long : length (set q 0 0) ≡ length q = length-set q 0 0 in
-    (s.pre.0, ((ws-made c).list-w.ensures, ((rises-made c).list-rises.ensures, ((omega arith, omega (arith, s.pre.1.0), s.pre.1.1 0), bound_set flow_limit q 0 0 s.pre.1.1 zero-le))))
+    (s.requires.0, ((ws-made c).list_w-ws.ensures, ((rises-made c).list_rises-rises.ensures, ((omega arith, omega (arith, s.requires.1.0), s.requires.1.1 0), bound_set flow_limit q 0 0 s.requires.1.1 zero-le))))
 
 same_length : tie.Need-shape_of-q
-same_length c = let call = c.before.before in call.pass_on.auto.0 ∙ length-set (entry (ws-made call.before)).args.q.now 0 0
+same_length c = let call = c.before.before in call.pass_on.auto.q ∙ length-set (entry (ws-made call.before)).args.q.now 0 0
 
 returns-2 : tie.Need-returns
 returns-2 c =
@@ -42,7 +42,8 @@ returns-2 c =
     let x = (entry (ws-made call.before)).args in
     let e = call.pass_on.ensures in
     let rows = rows_of x.svs.now x.sqs.now in
-    let q = x.q.now in record { q_after = e.0 ∙ ponded_first x.m rows q _ _ (omega arith) (omega arith) (omega arith); over = e.1 ∙ above_first x.m rows q _ _ (omega arith) (omega arith) }
+    let q = x.q.now in
+    (e.0 ∙ ponded_first x.m rows q _ _ (omega arith) (omega arith) (omega arith), e.1 ∙ above_first x.m rows q _ _ (omega arith) (omega arith))
 
 pub pass_pool_spec : {M : Type 1} → statement M
 pass_pool_spec =

@@ -9,10 +9,10 @@ use Rattle.pond.specs.Levels.{rise_of}
 use Rattle.pond.proofs.rise_of.Statement.{statement}
 use Rattle.pond.proofs.rise_of.Tie as tie
 
-limit : (s : tie.Start) → let x = s.args in w_of x.m (pool_row x.sv x.sq) + 600_000 * rise_of x.m x.sv x.sq x.next-sv x.next-sq ≤ 17_351_999_128_800_000
+limit : (s : tie.Start) → let x = s.args in w_of x.m (pool_row x.sv x.sq) + 600_000 * rise_of x.m x.sv x.sq x.next_sv x.next_sq ≤ 17_351_999_128_800_000
 limit s =
     let x = s.args in
-    rw (w_rises x.m x.sv x.sq x.next-sv x.next-sq s.requires.1 s.requires.3) (w_limit x.m x.next-sv x.next-sq s.requires.0 s.requires.2 s.requires.4)
+    rw (w_rises x.m x.sv x.sq x.next_sv x.next_sq s.requires.1 s.requires.3) (w_limit x.m x.next_sv x.next_sq s.requires.0 s.requires.2 s.requires.4)
 
 pub rise_of_spec : {M : Type 1} → statement M
 rise_of_spec =

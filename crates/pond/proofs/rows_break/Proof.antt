@@ -26,18 +26,18 @@ row-breaks-requires : tie.Need-row_breaks-requires invariant-loop decreases-loop
 row-breaks-requires c κs =
     let l = c.before.before.before in
     let s = entry l in
-    (s.pre.0.0, s.pre.1.0 l.loop-j.j, s.pre.1.1 l.loop-j.j)
+    (s.requires.0.0, s.requires.1.0 l.loop-j.j, s.requires.1.1 l.loop-j.j)
 
 -- A row that breaks a rule, or does not.
 turn : (c : tie.After-row_breaks invariant-loop decreases-loop) (broken : Bool) → c.row_breaks.result ≡ broken
-    → let x = (entry (at-loop c)).args in let l = (at-loop c).loop in let sv = get_or x.svs.now l.j 0 in let sq = get_or x.sqs.now l.j 0 in
+    → let x = (entry (at-loop c)).args in let l = (at-loop c).loop-j in let sv = get_or x.svs.now l.j 0 in let sq = get_or x.sqs.now l.j 0 in
     (broken || rows_break x.m (pool_row sv sq) (rows_of (drop (l.j + 1) x.svs.now) (drop (l.j + 1) x.sqs.now)))
     ≡ rows_break x.m (pool_row 0 0) (rows_of (drop 1 x.svs.now) (drop 1 x.sqs.now))
 turn c broken e =
     let s = entry (at-loop c) in
-    let l = (at-loop c).loop in
-    rows_turn s.args.m l.sv l.sq s.args.svs.now s.args.sqs.now l.j broken s.pre.0.1 (omega arith) (sym e ∙ c.row_breaks.ensures)
-    ∙ l.inv
+    let l = (at-loop c).loop-j in
+    rows_turn s.args.m l.sv l.sq s.args.svs.now s.args.sqs.now l.j broken s.requires.0.1 (omega arith) (sym e ∙ c.row_breaks.ensures)
+    ∙ l.invariant
 
 returns : tie.Need-returns-then-row_breaks invariant-loop decreases-loop
 returns c = turn c.before true c.if-row_breaks.true

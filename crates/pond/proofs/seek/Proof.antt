@@ -26,18 +26,18 @@ sink-requires : tie.Need-sink-row-requires
 sink-requires c κs =
     let s = from-below c in
     let x = s.args in
-    let g = s.pre.sought in
-    let t = row-topped s.pre.m x.svs.now x.sqs.now x.ws.now x.rises.now x.s g in
-    (omega (arith, t.ahead, t.inside), first_low s.pre.m x.svs.now x.sqs.now x.ws.now x.rises.now x.s g)
+    let g = s.requires.sought in
+    let t = row-topped s.requires.m x.svs.now x.sqs.now x.ws.now x.rises.now x.s g in
+    (omega (arith, t.ahead, t.inside), first_low s.requires.m x.svs.now x.sqs.now x.ws.now x.rises.now x.s g)
 
 span-at-requires : tie.Need-span_at-requires
 span-at-requires c κs =
     let s = from-below c.before in
     let x = s.args in
-    let g = s.pre.sought in
+    let g = s.requires.sought in
     let k = c.sink-row.result in
-    row-sought s.pre.m x.svs.now x.sqs.now x.ws.now x.rises.now x.s g k
-    (sink_inside s.pre.m x.svs.now x.sqs.now x.ws.now x.rises.now x.s g x.w k c.sink-row.ensures)
+    row-sought s.requires.m x.svs.now x.sqs.now x.ws.now x.rises.now x.s g k
+    (sink_inside s.requires.m x.svs.now x.sqs.now x.ws.now x.rises.now x.s g x.w k c.sink-row.ensures)
 
 returns : tie.Need-returns-then-w-s
 returns c = λ m g.
@@ -50,7 +50,7 @@ climb-requires : tie.Need-climb-row-requires
 climb-requires c κs =
     let s = from-above c in
     let x = s.args in
-    row-topped s.pre.m x.svs.now x.sqs.now x.ws.now x.rises.now x.s s.pre.sought
+    row-topped s.requires.m x.svs.now x.sqs.now x.ws.now x.rises.now x.s s.requires.sought
 
 -- The row at which the search upwards ends, or the last but one.
 clamped : (c : tie.After-smaller-last) → c.smaller-last.result ≡ min c.climb-row.result (length (from-above c.before.before).args.svs.now - 2)
@@ -60,9 +60,9 @@ span-at-requires-2 : tie.Need-span_at-requires-then-s-w
 span-at-requires-2 c κs =
     let s = from-above c.before.before in
     let x = s.args in
-    let g = s.pre.sought in
-    row-sought s.pre.m x.svs.now x.sqs.now x.ws.now x.rises.now x.s g c.smaller-last.result
-    (climb_inside s.pre.m x.svs.now x.sqs.now x.ws.now x.rises.now x.s g x.w c.climb-row.result c.smaller-last.result (clamped c))
+    let g = s.requires.sought in
+    row-sought s.requires.m x.svs.now x.sqs.now x.ws.now x.rises.now x.s g c.smaller-last.result
+    (climb_inside s.requires.m x.svs.now x.sqs.now x.ws.now x.rises.now x.s g x.w c.climb-row.result c.smaller-last.result (clamped c))
 
 returns-2 : tie.Need-returns-then-s-w
 returns-2 c = λ m g.

@@ -20,14 +20,14 @@ loop-holds : tie.Need-loop-k-init invariant-loop decreases-loop
 loop-holds c = left_none c.args.ws.now c.args.row c.args.w c.args.row refl
 
 -- That is not the first.
-behind-first : (c : tie.In-loop-k invariant-loop decreases-loop) → 0 < (at-loop c).loop.k
-behind-first c = let s = (at-loop c).before in left_behind s.args.ws.now s.args.w (at-loop c).loop.k (omega (arith, c.loop-k-test.true)) s.pre.1
+behind-first : (c : tie.In-loop-k invariant-loop decreases-loop) → 0 < (at-loop c).loop-k.k
+behind-first c = let s = (at-loop c).before in left_behind s.args.ws.now s.args.w (at-loop c).loop-k.k (omega (arith, c.loop-k-test.true)) s.requires.1
 
 loop-again : tie.Need-loop-k-preserved invariant-loop decreases-loop
 loop-again c =
     let l = at-loop c in
     let x = l.before.args in
-    left_more x.ws.now x.row x.w l.loop.k l.loop.inv (omega (arith, c.loop-k-test.true)) (behind-first c)
+    left_more x.ws.now x.row x.w l.loop-k.k l.loop-k.invariant (omega (arith, c.loop-k-test.true)) (behind-first c)
 
 returns : tie.Need-returns invariant-loop decreases-loop
 returns c = record { left = c.loop-k.invariant; here = omega (arith, c.loop-k-test.false) }

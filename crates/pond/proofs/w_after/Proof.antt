@@ -8,8 +8,8 @@ use Rattle.pond.specs.Turns.{pool_of}
 use Rattle.pond.proofs.w_after.Statement.{statement}
 use Rattle.pond.proofs.w_after.Tie as tie
 
-limit : (s : tie.Start) → s.args.m * (s.args.old-in + s.args.new_in) ≤ 17_280_000_000_000_000
-limit s = inflow_limit s.args.m (pool_of s.args.w s.args.old-in s.args.old-out) s.args.new_in s.requires.1
+limit : (s : tie.Start) → s.args.m * (s.args.old_in + s.args.new_in) ≤ 17_280_000_000_000_000
+limit s = inflow_limit s.args.m (pool_of s.args.w s.args.old_in s.args.old_out) s.args.new_in s.requires.1
 
 returns : tie.Need-returns
 unfolding w_after
