@@ -1,4 +1,6 @@
 // The summary of a hydrograph: its peak, the first interval of the peak, and the sum of its ordinates. Above the limit of a flow there is none.
+#![tactic(auto)]
+
 ghost use Rattle.std.specs.Prelude.{◌≡◌, ◌≤◌, length};
 ghost use Rattle.meaning.specs.Records.{most_ordinates};
 ghost use Rattle.summary.specs.Summary.{no_summary, summary_within};
