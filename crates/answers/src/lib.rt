@@ -1,5 +1,7 @@
 // What a run answers: the answer itself, the refusals that go by sizes alone (1, 2 and 17), the refusal that leaves zeros in all that was lent, and the end of a run
 // whose deck is sound.
+#![tactic(auto)]
+
 ghost use Rattle.std.specs.Prelude.{◌≡◌, ◌≤◌};
 ghost use Rattle.meaning.specs.Run.{refused, most_blocks};
 ghost use Rattle.answers.specs.Answers.{outcome_is, lent_as, lacking, size_refusal, settled_as};

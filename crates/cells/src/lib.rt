@@ -1,4 +1,6 @@
 // The cells of a runoff block's hand sheet: a figure in one of two measures, behind its comma. Each function writes from a place on and answers the place behind it.
+#![tactic(auto)]
+
 ghost use Rattle.std.specs.Prelude.{◌+◌, ◌≤◌, length};
 ghost use Rattle.sequences.specs.Bounds.{AllUpTo};
 ghost use Rattle.meaning.specs.Listing.{whole};

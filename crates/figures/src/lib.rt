@@ -1,4 +1,6 @@
 // A record in print: one line, of its name and its figures. What is written stands from a place on, and the answer is the place behind it.
+#![tactic(auto)]
+
 ghost use Rattle.std.specs.Prelude.{◌≡◌, ◌+◌, ◌≤◌, length};
 ghost use Rattle.meaning.specs.Results.{record_size};
 ghost use Rattle.meaning.specs.Listing.{rounded};

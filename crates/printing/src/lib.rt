@@ -1,5 +1,7 @@
 // Records and refusals in print: a line for each record, under a line with its ratio where ratios are listed, and the block count; or one line for a refusal.
 // Each function that writes does so from a place on and answers the place behind it.
+#![tactic(auto)]
+
 ghost use Rattle.std.specs.Prelude.{◌++◌, ◌+◌, ◌*◌, ◌≤◌, length};
 ghost use Rattle.meaning.specs.Results.{record_size};
 ghost use Rattle.meaning.specs.Listing.{refused_line, ratio_line, end_line};

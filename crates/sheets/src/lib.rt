@@ -1,5 +1,7 @@
 // The hand sheet of a runoff block in print: a title, and a table with a row for each interval that has excess. Or, of another block, that it has no sheet.
 // Each function writes from a place on and answers the place behind it.
+#![tactic(auto)]
+
 ghost use Rattle.std.specs.Prelude.{◌≡◌, ◌++◌, ◌+◌, ◌*◌, ◌<◌, ◌≤◌, length};
 ghost use Rattle.sequences.specs.Bounds.{AllUpTo};
 ghost use Rattle.meaning.specs.Words.{bytes};

@@ -1,5 +1,7 @@
 // Standard input and output of the programs: all of the input, or as bundles hold it, numbers of 4 bytes and decks of a known length; text
 // to the output. Where either fails, or the input ends too early, a line on standard error says so: a program has no exit status.
+#![tactic(auto)]
+
 ghost use Rattle.std.specs.Prelude.{◌≡◌, ◌≤◌, length};
 ghost use Rattle.streams.specs.Numbers.{IsPrefixLen, Filled, InFour, InFourEach, CaseInFour, Kept, Fits};
 

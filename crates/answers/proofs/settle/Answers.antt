@@ -1,0 +1,15 @@
+-- The one test is the definition's own: 17 is a refusal like any other, and else the words alone are zeroed.
+use mathlib.Core.Path.{sym, ◌∙◌}
+use Rattle.sequences.specs.Choices.{taken, passed}
+use Rattle.answers.specs.Answers.{zeros_accept}
+use Rattle.answers.proofs.settle.Goals as goal
+
+pub returns-then-lacks_room : goal.returns-then-lacks_room
+returns-then-lacks_room c =
+    taken _ (sym c.lacks_room.ensures ∙ c.if-lacks_room.true) c.refuse.ensures
+
+pub returns : goal.returns
+returns c =
+    let x = c.args in
+    passed _ (sym c.lacks_room.ensures ∙ c.if-lacks_room.false)
+    (zeros_accept x.nq x.blocks x.ratios x.work.now _ x.ordinates.now x.records.now c.zero_words.ensures)
