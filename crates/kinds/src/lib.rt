@@ -1,4 +1,6 @@
 // The kind of a block. The records that are there are one number, and the kind goes by that number.
+#![tactic(auto)]
+
 ghost use Rattle.std.specs.Prelude.{◌≡◌, List, ℕ, ◌≤◌, ◌<◌};
 ghost use Rattle.meaning.specs.Blocks.{is_given, card_of, kind_of};
 ghost use Rattle.records.specs.Rows.{items};

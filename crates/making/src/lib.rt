@@ -1,4 +1,6 @@
 // The hydrograph of a block that its shape does not refuse, made in the work words and held: a function for each kind.
+#![tactic(auto)]
+
 ghost use Rattle.std.specs.Prelude.{◌≡◌, List, [], ℕ};
 ghost use Rattle.meaning.specs.Blocks.{Basin, Inflow, Confluence, Reach, Pond, basin_area, overtops};
 ghost use Rattle.meaning.specs.Run.{taken_by};

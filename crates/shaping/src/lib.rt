@@ -1,5 +1,7 @@
 // What the lines alone decide of a block that closes, before any flow is looked at: its kind, the refusals 9, 18, 10, 11 and 12 or 19, and how many
 // are held after it.
+#![tactic(auto)]
+
 ghost use Rattle.std.specs.Prelude.{◌≡◌, List, ℕ};
 ghost use Rattle.meaning.specs.Words.{◌=?◌, met};
 ghost use Rattle.meaning.specs.Blocks.{Reach, Pond, kind_number, takes_by, patternless, broken_by, reach_steps, reach_k, reach_x};

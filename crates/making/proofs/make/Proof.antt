@@ -19,26 +19,26 @@ use Rattle.making.specs.Made.{Makes, MakesAll, made_dry, all_dry}
 use Rattle.making.proofs.make.Statement.{statement}
 use Rattle.making.proofs.make.Tie as tie
 
-make-basin-requires : tie.Need-make-basin-requires
-make-basin-requires c κs = let p = c.before.before.before.before.before.requires in (p.0, (p.1.0, λ name. rw c.before.enum-told2.given.1 at (p.1.1 name)))
+make-basin-requires : tie.Need-make_basin-requires
+make-basin-requires c κs = let p = c.requires in (p.0, (p.1.0, λ name. rw c.in-Basin.is at (p.1.1 name)))
 
-make-inflow-requires : tie.Need-make-inflow-requires
-make-inflow-requires c κs = let p = c.before.before.before.before.before.requires in (p.0, (p.1.0, λ name. rw c.before.enum-told3.given.1 at (p.1.1 name)))
+make-inflow-requires : tie.Need-make_inflow-requires
+make-inflow-requires c κs = let p = c.requires in (p.0, (p.1.0, λ name. rw c.in-Inflow.is at (p.1.1 name)))
 
-make-confluence-requires : tie.Need-make-confluence-requires
-make-confluence-requires c κs = let p = c.before.before.before.before.before.requires in (p.0, (p.1.0, λ name. rw c.before.enum-told4.given.1 at (p.1.1 name)))
+make-confluence-requires : tie.Need-make_confluence-requires
+make-confluence-requires c κs = let p = c.requires in (p.0, (p.1.0, λ name. rw c.in-Confluence.is at (p.1.1 name)))
 
-make-reach-requires : tie.Need-make-reach-requires
-make-reach-requires c κs = let p = c.before.before.before.before.before.requires in (p.0, (p.1.0, λ name. rw c.before.enum-told5.given.1 at (p.1.1 name)))
+make-reach-requires : tie.Need-make_reach-requires
+make-reach-requires c κs = let p = c.requires in (p.0, (p.1.0, λ name. rw c.in-Reach.is at (p.1.1 name)))
 
-make-pond-requires : tie.Need-make-pond-requires
-make-pond-requires c κs = let p = c.before.before.before.before.before.requires in (p.0, (p.1.0, λ name. rw c.before.enum-told6.given.1 at (p.1.1 name)))
+make-pond-requires : tie.Need-make_pond-overtopped-requires
+make-pond-requires c κs = let p = c.requires in (p.0, (p.1.0, λ name. rw c.in-Pond.is at (p.1.1 name)))
 
-returns : tie.Need-returns
+returns : tie.Need-returns-in-NoKind
 returns c = λ name.
-    let s = c.before.before.before.before.before in
+    let s = c.before.before.before.before in
     let x = s.args in
-    absurd (none_refused (time_is x.time) (block_of name x.cards.now) x.held.depth (rw c.before.enum_told.given.1 at (s.requires.1.1 name)))
+    absurd (none_refused (time_is x.time) (block_of name x.cards.now) x.held.depth (rw c.in-NoKind.is at (s.requires.1.1 name)))
 
 -- an arm whose block is no pond: what its function made is all, and dry
 arm : (s : tie.Start) (name : List ℕ) {k : Kind} {next : Stack} {r : Made} {w : List ℕ} → let x = s.args in let τ = time_is x.time in let b = block_of name x.cards.now in
@@ -48,32 +48,32 @@ arm s name e none made dry =
     let x = s.args in
     all_dry (time_is x.time) (block_of name x.cards.now) x.held x.work.now (rw e at (s.requires.1.1 name).is) none made dry
 
-returns-2 : tie.Need-returns-2
+returns-2 : tie.Need-returns-in-Basin
 returns-2 c = λ name.
     let made = c.before.before.before in
     let told = made.before.before in
-    arm told.before.before.before.before name told.enum-told2.given.1 refl (made.make-basin.ensures name) c.dry2.ensures
+    arm told.before.before.before name told.in-Basin.is refl (made.make_basin.ensures name) c.dry-in-Basin.ensures
 
-returns-3 : tie.Need-returns-3
+returns-3 : tie.Need-returns-in-Inflow
 returns-3 c = λ name.
     let made = c.before.before.before in
     let told = made.before.before in
-    arm told.before.before.before.before name told.enum-told3.given.1 refl (made.make-inflow.ensures name) c.dry3.ensures
+    arm told.before.before.before name told.in-Inflow.is refl (made.make_inflow.ensures name) c.dry-in-Inflow.ensures
 
-returns-4 : tie.Need-returns-4
+returns-4 : tie.Need-returns-in-Confluence
 returns-4 c = λ name.
     let made = c.before.before.before in
     let told = made.before.before in
-    arm told.before.before.before.before name told.enum-told4.given.1 refl (made.make-confluence.ensures name) c.dry4.ensures
+    arm told.before.before.before name told.in-Confluence.is refl (made.make_confluence.ensures name) c.dry-in-Confluence.ensures
 
-returns-5 : tie.Need-returns-5
+returns-5 : tie.Need-returns-in-Reach
 returns-5 c = λ name.
     let made = c.before.before.before in
     let told = made.before.before in
-    arm told.before.before.before.before name told.enum-told5.given.1 refl (made.make-reach.ensures name) c.dry5.ensures
+    arm told.before.before.before name told.in-Reach.is refl (made.make_reach.ensures name) c.dry-in-Reach.ensures
 
-returns-6 : tie.Need-returns-6
-returns-6 c = λ name. let pond = c.before.before.make-pond.ensures in record { makes = pond.1 name; over = pond.0 name }
+returns-6 : tie.Need-returns-in-Pond
+returns-6 c = λ name. let pond = c.make_pond-overtopped.ensures in record { makes = pond.1 name; over = pond.0 name }
 
 pub make_spec : {M : Type 1} → statement M
 make_spec =

@@ -18,7 +18,7 @@ use Rattle.making.specs.Made.{makes_by, over_by_lem}
 use Rattle.making.proofs.make_pond.Statement.{statement}
 use Rattle.making.proofs.make_pond.Tie as tie
 
-pond-last-requires : tie.Need-pond-last-requires
+pond-last-requires : tie.Need-pond_last-requires
 pond-last-requires c κs =
     let s = c.before.before.before.before.before in
     let x = s.args in
@@ -28,16 +28,16 @@ pond-last-requires c κs =
     let some : 1 ≤ x.held.depth = (shaped_passes τ b x.held.depth (s.requires.1.1 [])).enough in
     let few = values_few SV [] x.cards.now (omega arith) read.words.long in
     let table = pond_shaped τ b x.held.depth (s.requires.1.1 []) read.time read.cards few in
-    ((some, s.requires.0.fits), (s.requires.0.flows, rw (c.before.before.values.ensures [], c.before.values2.ensures []) table))
+    ((some, s.requires.0.fits), (s.requires.0.flows, rw (c.values-svs.ensures [], c.values-sqs.ensures []) table))
 
 -- where the pool was passed: behind the entry
-abbrev entry : tie.After-pond-last → tie.Start
+abbrev entry : tie.After-pond_last → tie.Start
 entry c = c.before.before.before.before.before.before
 
 -- the rows that were lent are the block's own
-rows : (c : tie.After-pond-last) (name : List ℕ) → let x = c.before.before.before.before.before.before.args in
-    rows_of c.before.before.before.values.result.now c.before.before.values2.result.now ≡ pond_rows (block_of name x.cards.now)
-rows c name = rw (c.before.before.before.values.ensures name, c.before.before.values2.ensures name)
+rows : (c : tie.After-pond_last) (name : List ℕ) → let x = c.args in
+    rows_of c.values-svs.result.now c.values-sqs.result.now ≡ pond_rows (block_of name x.cards.now)
+rows c name = rw (c.values-svs.ensures name, c.values-sqs.ensures name)
 
 returns : tie.Need-returns
 returns c =
@@ -46,16 +46,16 @@ returns c =
     let x = s.args in
     let τ = time_is x.time in
     let held = view x.held x.time.ordinates x.work.now in
-    let h = q.pond-last.ensures in (
+    let h = q.pond_last.ensures in (
       λ name.
           let b = block_of name x.cards.now in
-          let e = (s.pre.1.1 name).is in
+          let e = (s.requires.1.1 name).is in
           h.0 ∙ rw (rows q name, takes-by b e) (sym (over_by_lem τ b (total (take 1 held)) e)),
       λ name.
           let b = block_of name x.cards.now in
-          let e = (s.pre.1.1 name).is in
+          let e = (s.requires.1.1 name).is in
           makes_by τ b x.held x.work.now e refl (h.1.0 ∙ rw (rows q name)) (h.1.1 ∙ rw (rows q name) (sym (after-pond τ b held e))),
     )
 
-pub make-pond-spec : {M : Type 1} → statement M
-make-pond-spec = tie.close (tie.spec (λ c κs. search rules) (λ c κs. search rules) pond-last-requires (λ c. search rules) returns)
+pub make_pond_spec : {M : Type 1} → statement M
+make_pond_spec = tie.close (tie.spec (λ c κs. search rules) (λ c κs. search rules) pond-last-requires (λ c. search rules) returns)
