@@ -14,7 +14,7 @@ use Rattle.meaning.specs.Blocks.{Time, under, Block, kind_number, kind_of, is_gi
 use Rattle.meaning.specs.Results.{Result}
 use Rattle.meaning.specs.Run.{held_after, shape_refusal, Only, Worked, Done, Lent, Accepted, worked_under, outcome, most_blocks}
 use Rattle.passes.specs.Apart.{ratio_count}
-use Rattle.passes.specs.Walks.{count_some, ratios_done}
+use Rattle.passes.proofs.Walks.{count_some, ratios_done}
 use Rattle.passes.specs.One.{time_at, closing_under}
 use Rattle.sequences.specs.Choices.{below_or_not}
 use Rattle.sequences.specs.Refusals.{neither_met, not_met}

@@ -11,7 +11,7 @@ use Rattle.meaning.specs.Results.{Result, blocks_of}
 use Rattle.meaning.specs.Run.{Only, Done, worked_under, worked, block_count}
 use Rattle.passes.specs.Apart.{ratio_count}
 use Rattle.passes.specs.Together.{some_ratio, ratio-at}
-use Rattle.passes.specs.Walks.{count_some, ratios_done, done_under_all}
+use Rattle.passes.proofs.Walks.{count_some, ratios_done, done_under_all}
 use Rattle.passes.specs.One.{time_at}
 use Rattle.network.specs.Order.{Said, Unsound, Sound, said}
 use Rattle.network.specs.Steps.{first_refusal, closed_from, Stops, WorkedAs, worked_as_said}

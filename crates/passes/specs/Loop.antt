@@ -1,13 +1,13 @@
 -- The code's loop over ratios: what it keeps between two walks, and what it leaves.
 --     WalkIs            what a walk under one ratio that came to its end promises of what it is lent: the bytes of the records from its own on, and ordinates
 --     Holds, Stands     where the loop stands after k walks. Once one was refused nothing is kept of what was lent: all of it is zeroed in the end
---     holds_first, holds_more, holds-refused, holds_still_refused    what is kept after the first walk, after another, and once one was refused
+--     holds_first, holds-refused, holds_still_refused    what is kept after the first walk, and once one was refused; after another: proofs/Loop.antt
 --     lent-zeros        what the next walk is lent of the records is zeros still
---     loop_first, loop_more, loop_found    the loop, and what all the walks found
+--     loop_more, loop_found    the loop, and what all the walks found; its beginning: proofs/Loop.antt
 --     turn-done, turn-stopped, turn-still-stopped    loop_more by what the walk came to
 --     loop_ends         what comes back where it is accepted
-use Rattle.std.specs.Prelude.{ℕ, zero, suc, ◌+◌, ◌-◌, ◌*◌, ◌≤◌, ◌<◌, ◌≡◌, refl, Bool, ◌⊎◌, List, [], ◌∷◌, ◌++◌, length, take, drop, get_or, replicate}
-use Rattle.std.proofs.Common.{sym, ap, subst, ◌∙◌, inl, inr, ⊎_elim, append_assoc, append-nil, mul-add, mul-one, arith, length-append, take_at, drop_at, eq-eqb, ne_eqb}
+use Rattle.std.specs.Prelude.{ℕ, zero, suc, ◌+◌, ◌-◌, ◌*◌, ◌≤◌, ◌<◌, ◌≡◌, refl, Bool, ◌⊎◌, List, [], ◌∷◌, ◌++◌, length, drop, get_or, replicate}
+use Rattle.std.proofs.Common.{sym, ap, ◌∙◌, inl, inr, ⊎_elim, append-nil, mul-one, arith, length-append, drop_at, eq-eqb, ne_eqb}
 use Rattle.std.proofs.Math.Bool.{true, false}
 use Rattle.std.proofs.Math.Seq.{get_or-append_seam}
 use Rattle.meaning.specs.Words.{if◌then◌else◌}
@@ -16,9 +16,6 @@ use Rattle.meaning.specs.Results.{Result, record_size, records_of}
 use Rattle.meaning.specs.Run.{Only, Worked, Stopped, Done, worked_under, worked, Lent, Accepted, named_flow, named_ratio, block_count, all_records, record_bytes, accepted}
 use Rattle.sequences.specs.Choices.{below_or_not}
 use Rattle.passes.specs.Apart.{comes_first, sooner, apart, ratio_count}
-use Rattle.passes.specs.Together.{together_apart}
-use Rattle.passes.specs.Walks.{count_some}
-use Rattle.passes.specs.Alike.{Alike, walks_alike}
 
 -- The records of the ratio at place k.
 abbrev pub records_at : ℕ → Time → List Result → List ℕ
@@ -58,15 +55,7 @@ pub record OrdinatesLent (ratio n k n' : ℕ) (before lent after : List ℕ) : T
   pub written : (ratio ≡ 0) ⊎ (ratio ≡ k + 1) → (n' ≡ n) × (after ≡ lent)
   pub left : 0 < ratio → ratio ≤ k → after ≡ before
 
-all_append : (τ : Time) (k : ℕ) (rss : List (List Result)) (rs : List Result) → all_records τ k (rss ++ (rs ∷ [])) ≡ all_records τ k rss ++ records_at (k + length rss) τ rs
-all_append τ k [] rs =
-    let here : k + 0 ≡ k = omega arith in
-    rw here (append-nil (records_at k τ rs))
-all_append τ k (qs ∷ rss) rs =
-    let on : k + 1 + length rss ≡ k + suc (length rss) = omega arith in
-    rw (all_append τ (k + 1) rss rs, on) (sym (append_assoc (records_at k τ qs) (all_records τ (k + 1) rss) (records_at (k + suc (length rss)) τ rs)))
-
-at_append : {A : Type 0} (xs : List A) (y d : A) (i : ℕ) → i < length xs → get_or (xs ++ (y ∷ [])) i d ≡ get_or xs i d
+pub at_append : {A : Type 0} (xs : List A) (y d : A) (i : ℕ) → i < length xs → get_or (xs ++ (y ∷ [])) i d ≡ get_or xs i d
 at_append [] y d i h = absurd (omega arith)
 at_append (x ∷ xs) y d zero h = refl
 at_append (x ∷ xs) y d (suc i) h = at_append xs y d i (omega arith)
@@ -102,7 +91,7 @@ module _ (deck : List ℕ) (named ratio n m : ℕ) where
   module _ (k n' nq : ℕ) (rss : List (List Result)) (rs : List Result) (before lent after : List ℕ) (long : length rss ≡ k) (room : nq ≤ n) (put : OrdinatesLent ratio n k n' before lent after)
       (this : nq ≤ n' → lent ≡ named_flow named rs ++ replicate (n' - nq) 0)
       (earlier : 0 < ratio → ratio ≤ k → before ≡ named_flow named (named_ratio ratio rss) ++ replicate (n - nq) 0) where
-    named_put : ratio ≤ k + 1 → after ≡ named_flow named (named_ratio ratio (rss ++ (rs ∷ []))) ++ replicate (n - nq) 0
+    pub named_put : ratio ≤ k + 1 → after ≡ named_flow named (named_ratio ratio (rss ++ (rs ∷ []))) ++ replicate (n - nq) 0
     named_put up =
         ⊎_elim
         (λ (here : (ratio ≡ 0) ⊎ (ratio ≡ k + 1)).
@@ -136,51 +125,6 @@ module _ (deck : List ℕ) (named ratio n m : ℕ) where
     pub lent-zeros : records_from b k ≤ m → drop (records_from b k) records ≡ replicate (m - records_from b k) 0
     lent-zeros fits = rw (h.told fits) (drop_at (all_records τ 0 rss) (replicate (m - records_from b k) 0) (records_from b k) h.long)
 
-    module _ (n' : ℕ) (σ : Time) (rs : List Result) (lent after lent-records records' : List ℕ) (w : WalkIs deck k named n' (m - records_from b k) σ rs lent lent-records)
-        (kept : records_from b k ≤ m → records' ≡ take (records_from b k) records ++ lent-records) (put : OrdinatesLent ratio n k n' ordinates lent after) where
-      alike : Alike deck τ σ (get_or rss 0 []) rs
-      alike = walks_alike deck 0 k τ σ (get_or rss 0 []) rs h.first w.done
-
-      walk : WalkIs deck k named n' (m - records_from b k) τ rs lent lent-records
-      walk = subst (λ (ρ : Time). WalkIs deck k named n' (m - records_from b k) ρ rs lent lent-records) (sym alike.time) w
-
-      more : all_records τ 0 (rss ++ (rs ∷ [])) ≡ all_records τ 0 rss ++ records_at k τ rs
-      more =
-          let last : 0 + length rss ≡ k = omega (arith, h.ratios) in
-          rw last at (all_append τ 0 rss rs)
-
-      begins : get_or (rss ++ (rs ∷ [])) 0 [] ≡ get_or rss 0 []
-      begins = at_append rss rs [] 0 (omega (arith, h.some, h.ratios))
-
-      one_more : b * (k + 1) ≡ b * k + b
-      one_more = rw (mul-add b k 1, mul-one b)
-
-      records_more : record_bytes b (k + 1) ≤ m → records' ≡ all_records τ 0 (rss ++ (rs ∷ [])) ++ replicate (m - record_bytes b (k + 1)) 0
-      records_more room =
-          let same = alike.blocks in
-          let f : records_from b k ≤ m = omega (arith, one_more) in
-          let g : record_size * length rs ≤ m - records_from b k = omega (arith, one_more) in
-          let z : m - records_from b k - record_size * length rs ≡ m - record_bytes b (k + 1) = omega (arith, one_more) in
-          kept f
-          ∙ rw (h.told f, take_at (all_records τ 0 rss) (replicate (m - records_from b k) 0) (records_from b k) h.long, walk.told g, z, more)
-          (sym (append_assoc (all_records τ 0 rss) (records_at k τ rs) (replicate (m - record_bytes b (k + 1)) 0)))
-
-      pub holds_more : Holds deck named ratio n m (k + 1) τ (rss ++ (rs ∷ [])) after records'
-      holds_more =
-          let same = alike.blocks in
-          record {
-            some = omega arith;
-            ratios = omega (arith, length-append rss (rs ∷ []), h.ratios);
-            first = rw begins h.first;
-            long = rw (begins, more) (omega (arith, length-append (all_records τ 0 rss) (records_at k τ rs), h.long, walk.long, one_more));
-            told = rw begins records_more;
-            flow =
-                rw begins
-                (λ (few : named ≤ b) (room : τ.ordinates ≤ n) (up : ratio ≤ k + 1).
-                let few' : named ≤ length rs = omega arith in
-                named_put k n' τ.ordinates rss rs ordinates lent after h.ratios room put (walk.flow few') (λ some. h.flow few room) up);
-          }
-
   -- Nothing is asked of what was lent once a walk was refused.
   either_stopped : (t : Bool) (number line number' line' k : ℕ) (ordinates records : List ℕ)
       → HoldsOf deck named ratio n m k (if t then Stopped number line else Stopped number' line') ordinates records
@@ -195,12 +139,6 @@ module _ (deck : List ℕ) (named ratio n m : ℕ) where
   pub holds_still_refused : (w : Worked) (number line k : ℕ) (ordinates records : List ℕ) → HoldsOf deck named ratio n m k (sooner (Stopped number line) w) ordinates records
   holds_still_refused (Stopped number' line') number line k ordinates records = either_stopped (comes_first number line number' line') number line number' line' k ordinates records
   holds_still_refused (Done τ rss) number line k ordinates records = tt
-
-  -- THE LOOP, whose variables are k and what was found. w is what the walk comes to.
-  pub loop_first : (w : Worked) (ordinates records : List ℕ) → worked_under (Only 0) deck ≡ w → HoldsOf deck named ratio n m 1 w ordinates records
-      → Stands deck named ratio n m 1 w ordinates records
-  loop_first w ordinates records e h =
-      record { up = count_some deck; walked = sym (together_apart deck ∙ ap (λ (v : Worked). apart deck v 1 (ratio_count deck - 1)) e); holds = h }
 
   module _ (k : ℕ) (more : k < ratio_count deck) (ordinates records ordinates' records' : List ℕ) where
     pub loop_more : (found w : Worked) → worked_under (Only k) deck ≡ w → Stands deck named ratio n m k found ordinates records

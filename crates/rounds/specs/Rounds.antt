@@ -16,7 +16,8 @@ use Rattle.blocks.specs.Meant.{ratios_is}
 use Rattle.results.specs.Records.{length-records}
 use Rattle.passes.specs.Apart.{comes_first, sooner, ratio_count}
 use Rattle.passes.specs.Loop as loop
-use Rattle.passes.specs.Loop.{WalkIs, Holds, HoldsOf, Stands, OrdinatesLent, holds_first, holds_more, holds-refused, holds_still_refused, lent-zeros, loop_first, loop_more, loop_found}
+use Rattle.passes.specs.Loop.{WalkIs, Holds, HoldsOf, Stands, OrdinatesLent, holds_first, holds-refused, holds_still_refused, lent-zeros, loop_more, loop_found}
+use Rattle.passes.proofs.Loop.{holds_more, loop_first}
 use Rattle.turns.specs.declared.Worked.{Worked}
 use Rattle.lending.specs.Sooner.{sooner_by, sooner_of}
 use Rattle.walking.specs.declared.Walked.{Walked}

@@ -13,7 +13,7 @@ use Rattle.meaning.specs.Run.{Done, Only, worked_under}
 use Rattle.blocks.specs.declared.Ratios.{Ratios}
 use Rattle.blocks.specs.Meant.{ratios_is}
 use Rattle.passes.specs.Apart.{ratio_count}
-use Rattle.passes.specs.Walks.{count_some}
+use Rattle.passes.proofs.Walks.{count_some}
 use Rattle.turns.specs.declared.Worked.{Worked}
 use Rattle.rounds.specs.declared.Wanted.{Wanted}
 use Rattle.rounds.specs.Rounds.{Rounds, counted_nine}
