@@ -10,7 +10,7 @@ use Rattle.std.proofs.Common.{sym, ◌∙◌, ⊎_elim, arith, eq-eqb, le-ltb, e
 use Rattle.std.proofs.Math.Bool.{true, false}
 use mathlib.Core.List.{List, ◌++◌, map, map-append}
 use Rattle.std.proofs.Math.Logic.{inl, inr}
-use Rattle.std.proofs.lemmas.Bool.{not_false}
+use Rattle.std.proofs.lemmas.Bool.{not-false}
 use Rattle.std.proofs.Math.ListN.{length, length-append}
 use Rattle.meaning.specs.Words.{◌=?◌, ◌<?◌, met, first}
 use Rattle.meaning.specs.Moving.{records_in, joined, length_refusal, room_refusal}
@@ -47,7 +47,7 @@ module _ {size to : ℕ} {form : List ℕ → List ℕ} {faults : List (List ℕ
       let chain = neither_met (length_refusal size file) _ told.0 in
       let after = neither_met (faults (records_in size file)) _ chain.1 in
       record {
-        whole = eqb-true (length file % size) 0 (not_false (length file % size =? 0) (not_met _ 0 chain.0));
+        whole = eqb-true (length file % size) 0 (not-false (length file % size =? 0) (not_met _ 0 chain.0));
         sound = after.0;
         count = told.1;
         comes = w.is file room ∙ unless_moved (refusal_of size form faults file room) moved room told.0;

@@ -5,7 +5,7 @@ use Rattle.std.specs.Prelude.{ℕ, ◌+◌, ◌<◌, ◌≡◌, refl, Bool, true
 use Rattle.std.proofs.Common.{sym, ◌∙◌, arith, eqb-true, length-drop, take-append-drop, take_all, take_at, drop-drop, get_or-append-add, get_or-take, get_or-drop}
 use Rattle.std.proofs.Math.Path.{ap}
 use Rattle.std.proofs.Math.Bool.{not}
-use Rattle.std.proofs.lemmas.Bool.{false≢true, not_false}
+use Rattle.std.proofs.lemmas.Bool.{false≢true, not-false}
 use mathlib.Core.List.{List, [], ◌∷◌, ◌++◌, append_assoc, map}
 use Rattle.std.proofs.Math.ListN.{get_or-append}
 use Rattle.std.proofs.Math.Seq.{drop_at}
@@ -87,7 +87,7 @@ module _ (r : List ℕ) (size : length r ≡ record_size) (clean : filled new_pa
   no_byte : (k : ℕ) (rest : Bool) → (not (get_or r k 0 =? 0) || rest) ≡ false → (get_or r k 0 ≡ 0) × (rest ≡ false)
   no_byte k rest h =
       let both = both_fail (not (get_or r k 0 =? 0)) rest h in
-      (eqb-true (get_or r k 0) 0 (not_false (get_or r k 0 =? 0) both.0), both.1)
+      (eqb-true (get_or r k 0) 0 (not-false (get_or r k 0 =? 0) both.0), both.1)
 
   tail_zeros : drop 36 r ≡ little_endian 4 0
   tail_zeros =
@@ -101,7 +101,7 @@ module _ (r : List ℕ) (size : length r ≡ record_size) (clean : filled new_pa
 
   new_again : other_ratio r ≡ false → new_form (old_form r) ≡ r
   new_again plain =
-      let ratio : take 4 (drop old_record_size r) ≡ whole_ratio = same_bytes (take 4 (drop old_record_size r)) whole_ratio (not_false _ plain) in
+      let ratio : take 4 (drop old_record_size r) ≡ whole_ratio = same_bytes (take 4 (drop old_record_size r)) whole_ratio (not-false _ plain) in
       let after : drop old_record_size r ≡ behind =
       sym (take-append-drop 4 (drop old_record_size r)) ∙ rw (ratio, drop-drop 4 old_record_size r, tail_zeros) in
       append_assoc (take old_record_size r) whole_ratio (little_endian 4 0) ∙ ap (λ (l : List ℕ). take old_record_size r ++ l) (sym after) ∙ take-append-drop old_record_size r

@@ -1,4 +1,6 @@
 // What is told of the hydrograph held last: its place in the work words, its area and its summary; and the type of a closed block.
+#![tactic(auto)]
+
 ghost use Rattle.std.specs.Prelude.{◌≡◌, ◌-◌, ◌*◌, ◌≤◌, length, get_or};
 ghost use Rattle.sequences.specs.Parts.{part};
 ghost use Rattle.meaning.specs.Records.{most_ordinates};

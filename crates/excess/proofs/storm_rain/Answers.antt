@@ -1,4 +1,5 @@
 -- `excess::storm_rain` meets its contract, arm by arm; what is listed adds up to no more than may be cut by a ratio, and a total that is given is within its limit.
+use native.Mathlib.Omega.{arith}
 use mathlib.Core.Path.{refl, ◌∙◌}
 use lib.ListN.{length}
 use Rattle.storms.specs.Rains.{rain-sum}
@@ -13,7 +14,7 @@ rate-requires c =
 pub rate_total-requires : goal.rate_total-requires
 rate_total-requires c =
     record {
-      rain_len_bound = (c.requires.rain_len_bound.0, c.requires.rain_len_bound.1, given_within c.in-Given.is c.requires.total_within);
+      rain_len_bound = (c.requires.rain_len_bound.0, omega arith, given_within c.in-Given.is c.requires.total_within);
       all_up_to = c.requires.all_up_to;
     }
 
