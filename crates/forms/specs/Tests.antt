@@ -5,7 +5,7 @@
 --     other_told       the ratio and the place, by their number
 --     middle_told, tail_told     that padding, by its number
 use Rattle.std.specs.Prelude.{ℕ, zero, suc, ◌+◌, ◌*◌, ◌≤◌, ◌≡◌, refl, Bool, true, false, not, ◌&&◌, ◌||◌, List, [], ◌∷◌, length, take, drop, get_or}
-use Rattle.std.proofs.Common.{ap, ◌∙◌, arith, eq-eqb, ne_eqb, eqb-true, length-drop, add-one, drop-cons}
+use Rattle.std.proofs.Common.{ap, ◌∙◌, arith, eq-eqb, ne_eqb, eqb-true, add-one, drop-cons}
 use Rattle.std.proofs.lemmas.Bool.{eqb-false}
 use Rattle.meaning.specs.Words.{◌=?◌, same}
 use Rattle.meaning.specs.Results.{record_size, old_record_size}

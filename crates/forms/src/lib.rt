@@ -1,4 +1,6 @@
 // A record in its two forms: what it is refused for, and how it is written in the other form.
+#![tactic(auto)]
+
 ghost use Rattle.std.specs.Prelude.{◌≡◌, ◌++◌, ◌≤◌, length, take, drop};
 ghost use Rattle.meaning.specs.Results.{record_size, old_record_size};
 ghost use Rattle.meaning.specs.Moving.{old_padding, new_form, old_form, filled, other_ratio};
