@@ -1,4 +1,6 @@
 // The mover: a result file from the old form to the new, and back, between lent bytes.
+#![tactic(auto)]
+
 ghost use Rattle.std.specs.Prelude.{◌≡◌, ◌≤◌, length, take};
 ghost use Rattle.meaning.specs.Words.{◌<?◌, met, first};
 ghost use Rattle.meaning.specs.Results.{record_size, old_record_size};

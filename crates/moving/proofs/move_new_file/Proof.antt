@@ -11,53 +11,53 @@ use Rattle.moving.specs.Loops.{Moving, moving_starts, moving_fits, moving_goes, 
 use Rattle.moving.proofs.move_new_file.Statement.{statement}
 use Rattle.moving.proofs.move_new_file.Tie as tie
 
-abbrev invariant-loop : tie.invariant-loop
+abbrev invariant-loop : tie.invariant-loop-p
 invariant-loop file room₀ q₀ p₀ room q p = Moving old_form record_size file room₀ room p q
 
-abbrev decreases-loop : tie.decreases-loop
+abbrev decreases-loop : tie.decreases-loop-p
 decreases-loop file room₀ q₀ p₀ room q p = length file - p
 
-loop-holds : tie.Need-loop-init invariant-loop decreases-loop
-loop-holds c = moving_starts old_form record_size old_record_size (omega arith) old-makes c.before.before.args.file.now c.before.before.args.room.now
+loop-holds : tie.Need-loop-p-init invariant-loop decreases-loop
+loop-holds c = moving_starts old_form record_size old_record_size (omega arith) old-makes c.args.file.now c.args.room.now
 
 -- there is room for the next record
-fits : (c : tie.In-loop invariant-loop decreases-loop) → c.before.loop.q + old_record_size ≤ length c.before.loop.room
+fits : (c : tie.In-loop-p invariant-loop decreases-loop) → c.loop-p.q + old_record_size ≤ length c.loop-p.room
 fits c =
-    let l = c.before.loop in
+    let l = c.loop-p in
     let start = c.before.before.before.before in
     let x = start.args in
-    let room = moving_fits old_form record_size old_record_size (omega arith) old-makes x.file.now x.room.now l.room l.p l.q l.invariant c.loop-test.true start.requires in
+    let room = moving_fits old_form record_size old_record_size (omega arith) old-makes x.file.now x.room.now l.room l.p l.q l.invariant c.loop-p-test.true start.requires in
     omega (arith, l.invariant.long)
 
-put-old-requires : tie.Need-put-old-requires invariant-loop decreases-loop
+put-old-requires : tie.Need-put_old-requires invariant-loop decreases-loop
 put-old-requires c κs =
-    let l = c.before.before.before.loop in
+    let l = c.loop-p in
     let m : l.q + old_record_size - l.q ≡ old_record_size = omega arith in
     let n : l.p + record_size - l.p ≡ record_size = omega arith in
     let test = c.before.before in
-    (rw m (length_part l.q old_record_size l.room (fits test)), rw n (length_part l.p record_size test.before.before.before.before.args.file.now test.loop-test.true))
+    (rw m (length_part l.q old_record_size l.room (fits test)), rw n (length_part l.p record_size test.args.file.now test.loop-p-test.true))
 
-loop-again : tie.Need-loop-preserved invariant-loop decreases-loop
+loop-again : tie.Need-loop-p-preserved invariant-loop decreases-loop
 loop-again c =
-    let l = c.before.before.before.before.before.before.loop in
-    let x = c.before.before.before.before.before.before.before.before.before.args in
+    let l = c.loop-p in
+    let x = c.args in
     let m : l.q + old_record_size - l.q ≡ old_record_size = omega arith in
     let n : l.p + record_size - l.p ≡ record_size = omega arith in
-    let written : c.before.before.put-old.new.0 ≡ old_form (part l.p record_size x.file.now) = rw n at c.before.before.put-old.ensures in
-    moving_goes old_form record_size old_record_size (omega arith) old-makes x.file.now x.room.now l.room l.p l.q l.invariant _ c.before.before.before.before.before.loop-test.true
+    let written : c.put_old.new.to ≡ old_form (part l.p record_size x.file.now) = rw n at c.put_old.ensures in
+    moving_goes old_form record_size old_record_size (omega arith) old-makes x.file.now x.room.now l.room l.p l.q l.invariant _ c.loop-p-test.true
     (omega (arith, l.invariant.long, fits c.before.before.before.before.before)) (rw m (ap (put l.q old_record_size l.room) written))
 
-same_length : tie.Need-same-length invariant-loop decreases-loop
-same_length c = c.before.loop.invariant.long
+same_length : tie.Need-shape_of-room invariant-loop decreases-loop
+same_length c = c.loop-p.invariant.long
 
 returns : tie.Need-returns invariant-loop decreases-loop
 returns c =
-    let l = c.before.loop in
-    let x = c.before.before.before.before.args in
-    moving_ends old_form record_size old_record_size (omega arith) old-makes x.file.now x.room.now l.room l.p l.q l.invariant c.loop-test.false
+    let l = c.loop-p in
+    let x = c.args in
+    moving_ends old_form record_size old_record_size (omega arith) old-makes x.file.now x.room.now l.room l.p l.q l.invariant c.loop-p-test.false
 
-pub move-new-file-spec : {M : Type 1} → statement M
-move-new-file-spec =
+pub move_new_file_spec : {M : Type 1} → statement M
+move_new_file_spec =
     tie.close
     (tie.spec
     invariant-loop

@@ -11,53 +11,53 @@ use Rattle.moving.specs.Loops.{Moving, moving_starts, moving_fits, moving_goes, 
 use Rattle.moving.proofs.move_old_file.Statement.{statement}
 use Rattle.moving.proofs.move_old_file.Tie as tie
 
-abbrev invariant-loop : tie.invariant-loop
+abbrev invariant-loop : tie.invariant-loop-p
 invariant-loop file room₀ q₀ p₀ room q p = Moving new_form old_record_size file room₀ room p q
 
-abbrev decreases-loop : tie.decreases-loop
+abbrev decreases-loop : tie.decreases-loop-p
 decreases-loop file room₀ q₀ p₀ room q p = length file - p
 
-loop-holds : tie.Need-loop-init invariant-loop decreases-loop
-loop-holds c = moving_starts new_form old_record_size record_size (omega arith) new-makes c.before.before.args.file.now c.before.before.args.room.now
+loop-holds : tie.Need-loop-p-init invariant-loop decreases-loop
+loop-holds c = moving_starts new_form old_record_size record_size (omega arith) new-makes c.args.file.now c.args.room.now
 
 -- there is room for the next record
-fits : (c : tie.In-loop invariant-loop decreases-loop) → c.before.loop.q + record_size ≤ length c.before.loop.room
+fits : (c : tie.In-loop-p invariant-loop decreases-loop) → c.loop-p.q + record_size ≤ length c.loop-p.room
 fits c =
-    let l = c.before.loop in
+    let l = c.loop-p in
     let start = c.before.before.before.before in
     let x = start.args in
-    let room = moving_fits new_form old_record_size record_size (omega arith) new-makes x.file.now x.room.now l.room l.p l.q l.invariant c.loop-test.true start.requires in
+    let room = moving_fits new_form old_record_size record_size (omega arith) new-makes x.file.now x.room.now l.room l.p l.q l.invariant c.loop-p-test.true start.requires in
     omega (arith, l.invariant.long)
 
-put-new-requires : tie.Need-put-new-requires invariant-loop decreases-loop
+put-new-requires : tie.Need-put_new-requires invariant-loop decreases-loop
 put-new-requires c κs =
-    let l = c.before.before.before.loop in
+    let l = c.loop-p in
     let m : l.q + record_size - l.q ≡ record_size = omega arith in
     let n : l.p + old_record_size - l.p ≡ old_record_size = omega arith in
     let test = c.before.before in
-    (rw m (length_part l.q record_size l.room (fits test)), rw n (length_part l.p old_record_size test.before.before.before.before.args.file.now test.loop-test.true))
+    (rw m (length_part l.q record_size l.room (fits test)), rw n (length_part l.p old_record_size test.args.file.now test.loop-p-test.true))
 
-loop-again : tie.Need-loop-preserved invariant-loop decreases-loop
+loop-again : tie.Need-loop-p-preserved invariant-loop decreases-loop
 loop-again c =
-    let l = c.before.before.before.before.before.before.loop in
-    let x = c.before.before.before.before.before.before.before.before.before.args in
+    let l = c.loop-p in
+    let x = c.args in
     let m : l.q + record_size - l.q ≡ record_size = omega arith in
     let n : l.p + old_record_size - l.p ≡ old_record_size = omega arith in
-    let written : c.before.before.put-new.new.0 ≡ new_form (part l.p old_record_size x.file.now) = rw n at c.before.before.put-new.ensures in
-    moving_goes new_form old_record_size record_size (omega arith) new-makes x.file.now x.room.now l.room l.p l.q l.invariant _ c.before.before.before.before.before.loop-test.true
+    let written : c.put_new.new.to ≡ new_form (part l.p old_record_size x.file.now) = rw n at c.put_new.ensures in
+    moving_goes new_form old_record_size record_size (omega arith) new-makes x.file.now x.room.now l.room l.p l.q l.invariant _ c.loop-p-test.true
     (omega (arith, l.invariant.long, fits c.before.before.before.before.before)) (rw m (ap (put l.q record_size l.room) written))
 
-same_length : tie.Need-same-length invariant-loop decreases-loop
-same_length c = c.before.loop.invariant.long
+same_length : tie.Need-shape_of-room invariant-loop decreases-loop
+same_length c = c.loop-p.invariant.long
 
 returns : tie.Need-returns invariant-loop decreases-loop
 returns c =
-    let l = c.before.loop in
-    let x = c.before.before.before.before.args in
-    moving_ends new_form old_record_size record_size (omega arith) new-makes x.file.now x.room.now l.room l.p l.q l.invariant c.loop-test.false
+    let l = c.loop-p in
+    let x = c.args in
+    moving_ends new_form old_record_size record_size (omega arith) new-makes x.file.now x.room.now l.room l.p l.q l.invariant c.loop-p-test.false
 
-pub move-old-file-spec : {M : Type 1} → statement M
-move-old-file-spec =
+pub move_old_file_spec : {M : Type 1} → statement M
+move_old_file_spec =
     tie.close
     (tie.spec
     invariant-loop
