@@ -1,4 +1,6 @@
 // A case of the program `rooms`: what it says before its deck, and what is printed of it.
+#![tactic(auto)]
+
 ghost use Rattle.std.specs.Prelude.{◌≡◌, ◌+◌, ◌*◌, ◌≤◌, length};
 ghost use Rattle.meaning.specs.Run.{Accepted};
 ghost use Rattle.answers.specs.Answers.{answer_is, outcome_is};

@@ -1,4 +1,6 @@
 // A case of the program `mover`: what it says before its file, and what is printed of it.
+#![tactic(auto)]
+
 ghost use Rattle.std.specs.Prelude.{◌≡◌, ◌≤◌, length};
 ghost use Rattle.moving.specs.Answers.{move_is, outcome_is};
 ghost use Rattle.text.specs.Written.{Written};
