@@ -1,4 +1,6 @@
 // Where KK or ZZ closes a block: its hydrograph is made and held, and the flows are looked at, of what it takes (20) and of what it makes (13).
+#![tactic(auto)]
+
 ghost use Rattle.std.specs.Prelude.{◌≡◌, List, ℕ};
 ghost use Rattle.blocks.specs.Meant.{time_is};
 ghost use Rattle.blocks.specs.Cards.{block_of};

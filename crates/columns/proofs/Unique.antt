@@ -8,4 +8,4 @@ use Rattle.columns.proofs.fill_columns.Reads as fill-columns-says
 pub one_fill-columns : Once fill-columns.ps fill-columns.r fill-columns-says.Post
     (λ κs x y e f. (e.0.now ≡ f.0.now) × (e.1.0.now ≡ f.1.0.now) × (e.1.1.0.now ≡ f.1.1.0.now) × (e.1.1.1.0.now ≡ f.1.1.1.0.now))
 one_fill-columns κs a x y e f p q =
-    ((p []).rains-are ∙ sym (q []).rains-are, (p []).losses-are ∙ sym (q []).losses-are, (p []).excesses-are ∙ sym (q []).excesses-are, (p []).sums-are ∙ sym (q []).sums-are)
+    ((p []).rains_are ∙ sym (q []).rains_are, (p []).losses-are ∙ sym (q []).losses-are, (p []).excesses_are ∙ sym (q []).excesses_are, (p []).sums-are ∙ sym (q []).sums-are)

@@ -1,4 +1,6 @@
 // The columns of a runoff block's hand sheet: the rain, the loss and the excess of each interval, and the sums by ordinate.
+#![tactic(auto)]
+
 ghost use Rattle.std.specs.Prelude.{◌≡◌, List, ℕ, ◌-◌, ◌≤◌, length, get_or};
 ghost use Rattle.meaning.specs.Water.{list_from};
 ghost use Rattle.blocks.specs.Meant.{time_is};

@@ -1,4 +1,6 @@
 // What a round is lent of the room for results, how many rounds there are, and of two rounds that which is met first.
+#![tactic(auto)]
+
 ghost use Rattle.std.specs.Prelude.{◌≡◌, false, ◌-◌, ◌≤◌, ◌++◌, length, take, replicate};
 ghost use Rattle.meaning.specs.Blocks.{or_whole};
 ghost use Rattle.meaning.specs.Run.{most_blocks};

@@ -1,4 +1,6 @@
 // The turns of the walk: where it begins, the deck refused or worked, the next block opened.
+#![tactic(auto)]
+
 ghost use Rattle.std.specs.Prelude.{◌≡◌, true, ◌-◌, ◌*◌, ◌≤◌, length};
 ghost use Rattle.sequences.specs.Parts.{part};
 ghost use Rattle.meaning.specs.Records.{table, most_ordinates};

@@ -1,4 +1,6 @@
 // The walk over a deck: its blocks read one after the other, each closed as the next is opened, and what comes of them.
+#![tactic(auto)]
+
 ghost use Rattle.std.specs.Prelude.{◌≡◌, ◌≤◌, length, replicate};
 ghost use Rattle.meaning.specs.Records.{table};
 ghost use Rattle.meaning.specs.Run.{work_size};

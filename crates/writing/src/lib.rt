@@ -1,4 +1,6 @@
 // What is written of a block once it is closed: the record in its place, and the ordinates if it is the block named.
+#![tactic(auto)]
+
 ghost use Rattle.std.specs.Prelude.{◌≡◌, ◌+◌, ◌-◌, ◌*◌, ◌≤◌, length};
 ghost use Rattle.sequences.specs.Parts.{part};
 ghost use Rattle.meaning.specs.Records.{most_ordinates};

@@ -7,8 +7,7 @@ use lib.ListN.{length, take}
 use lib.Seq.{length-take-le}
 use borrow.Author.Rules.{rules}
 use Rattle.meaning.specs.Blocks.{or_whole}
-use Rattle.lending.proofs.count_of.Statement.{statement}
-use Rattle.lending.proofs.count_of.Tie as tie
+use Rattle.lending.proofs.count_of.Goals as goal
 
 some_listed : (rs : List ℕ) → 0 < length rs → length (or_whole rs) ≡ length rs
 some_listed [] h = absurd (omega arith)
@@ -26,14 +25,11 @@ above : (n : ℕ) → (n ≡ 0 → ⊥) → 0 < n
 above zero h = absurd (h refl)
 above (suc n) h = omega arith
 
-returns : tie.Need-returns
-returns c = let x = c.before.before.args in none_counted x.ratios.count x.ratios.values c.if1.true
+pub returns-then-ratios-eq0 : goal.returns-then-ratios-eq0
+returns-then-ratios-eq0 c = let x = c.args in none_counted x.ratios.count x.ratios.values c.if-ratios-eq0.true
 
-returns-2 : tie.Need-returns-2
-returns-2 c =
-    let x = c.before.before.args in
+pub returns : goal.returns
+returns c =
+    let x = c.args in
     let nine : length x.ratios.values ≡ 9 = search rules in
-    counted x.ratios.count x.ratios.values (above x.ratios.count c.if1.false) (omega (arith, nine, c.before.before.requires))
-
-pub count-of-spec : {M : Type 1} → statement M
-count-of-spec = tie.close (tie.spec returns returns-2)
+    counted x.ratios.count x.ratios.values (above x.ratios.count c.if-ratios-eq0.false) (omega (arith, nine, c.requires))

@@ -6,22 +6,15 @@ use native.Mathlib.Omega.{arith}
 use lib.ListN.{length, take, replicate}
 use borrow.Author.Rules.{rules}
 use Rattle.sequences.specs.Parts.{part, length_part, put, put_tail}
-use Rattle.lending.proofs.clear_from.Statement.{statement}
-use Rattle.lending.proofs.clear_from.Tie as tie
+use Rattle.lending.proofs.clear_from.Goals as goal
 
 cleared : (a : ℕ) (xs ys : List ℕ) → a ≤ length xs → ys ≡ replicate (length (part a (length xs - a) xs)) 0 → put a (length xs - a) xs ys ≡ take a xs ++ replicate (length xs - a) 0
 cleared a xs ys h e =
     let fits : a + (length xs - a) ≤ length xs = omega arith in
     put_tail a xs ys ∙ rw (e, length_part a (length xs - a) xs fits)
 
-returns : tie.Need-returns
+pub returns : goal.returns
 returns c =
-    let z = c.before.before in
-    let s = z.before.before.before in
-    cleared s.args.from s.args.ordinates.now _ s.requires z.zero-words.ensures
-
-pub clear-from-spec : {M : Type 1} → statement M
-clear-from-spec =
-    tie.close
-    (tie.spec
-    (λ c. search rules) (λ c. search rules) (λ c. search rules) (λ c. search rules) (λ c κs. search rules) (λ c. search rules) returns)
+    let z = c in
+    let s = z in
+    cleared s.args.from s.args.ordinates.now _ s.requires z.zero_words.ensures
