@@ -97,8 +97,8 @@ walk-next-requires c κs =
     let v = t.before.loop.invariant in
     let w = begin t in
     let enough = (entry w).pre.0 in (
-      (omega (arith, enough, v.work-long, w.walk_first.kept.1.1.0), omega (arith, v.cards-long)),
-      ((omega (arith, v.counted), omega (arith, v.nine)), rw (v.ordinates-long, v.records-long) v.rounds),
+      (omega (arith, enough, v.work_long, w.walk_first.kept.1.1.0), omega (arith, v.cards-long)),
+      ((omega (arith, v.counted), omega (arith, v.nine)), rw (v.ordinates_long, v.records_long) v.rounds),
     )
 
 add-place : tie.Need-overflow-add-place invariant-loop decreases-loop
@@ -113,16 +113,16 @@ loop-again c =
     let v = t.before.loop.invariant in
     let w = c.before.before.before.before.before.before.before.walk-next in
     record {
-      rounds = rw (v.ordinates-long, v.records-long) at w.ensures;
+      rounds = rw (v.ordinates_long, v.records_long) at w.ensures;
       counted = v.counted;
       many = v.many;
       few = v.few;
       nine = v.nine;
       listed = v.listed;
       up = omega arith;
-      work_long = w.auto.1.1.1.1.0 ∙ v.work-long;
-      ordinates_long = w.auto.1.1.1.1.1.0 ∙ v.ordinates-long;
-      records_long = w.auto.1.1.1.1.1.1.0 ∙ v.records-long;
+      work_long = w.auto.1.1.1.1.0 ∙ v.work_long;
+      ordinates_long = w.auto.1.1.1.1.1.0 ∙ v.ordinates_long;
+      records_long = w.auto.1.1.1.1.1.1.0 ∙ v.records_long;
       cards-long = w.auto.1.1.1.1.1.1.1.0 ∙ v.cards-long;
     }
 
@@ -139,6 +139,6 @@ walk-every-spec =
     tie.close
     (tie.spec
     invariant-loop decreases-loop (λ c. search rules) walk-first-requires count-of-requires loop-holds slice-aggregate-walk-next walk-next-requires add-place loop-less loop-again
-    (λ c. c.before.loop.invariant.work-long ∙ c.before.before.before.before.before.before.before.before.before.before.before.before.walk_first.auto.1.1.0)
-    (λ c. c.before.loop.invariant.ordinates-long ∙ ordinates-kept c.before.before.before.before.before.before.before.before.before.before.before.before)
-    (λ c. c.before.loop.invariant.records-long ∙ records-kept c.before.before.before.before.before.before.before.before.before.before.before.before) returns)
+    (λ c. c.before.loop.invariant.work_long ∙ c.before.before.before.before.before.before.before.before.before.before.before.before.walk_first.auto.1.1.0)
+    (λ c. c.before.loop.invariant.ordinates_long ∙ ordinates-kept c.before.before.before.before.before.before.before.before.before.before.before.before)
+    (λ c. c.before.loop.invariant.records_long ∙ records-kept c.before.before.before.before.before.before.before.before.before.before.before.before) returns)

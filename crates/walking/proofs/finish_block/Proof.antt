@@ -18,14 +18,14 @@ within c = rw c.requires.place at c.requires.within
 
 close-block-requires : tie.Need-close_block-closed-requires
 close-block-requires c κs =
-    let s = c.before.before.before.before.before in
+    let s = c.before.before.before.before.before.before in
     let x = s.args in
     let w = within s in
     (held-within x.k x.held x.r.time.ordinates x.work.now s.requires.few s.requires.held, record { time = w.0; words = s.requires.ready.readable; cards = w.1.cards })
 
 returns : tie.Need-returns-then-refusal-ne0
 returns c =
-    let s = c.before.before.before.before.before.before.before.before.before.before in
+    let s = c in
     let k = c.close_block-closed in
     record {
       closed = k.result;
@@ -38,7 +38,7 @@ returns c =
 
 write-result-requires : tie.Need-write_result-requires
 write-result-requires c κs =
-    let s = c.before.before.before.before.before.before.before.before.before.before.before.before.before in
+    let s = c in
     let k = c.close_block-closed in
     let keeps = (k.ensures []).keeps c.if-refusal-ne0.false in
     let fits = s.requires.held.fits in
@@ -46,7 +46,7 @@ write-result-requires c κs =
 
 returns-2 : tie.Need-returns
 returns-2 c =
-    let s = c.before.before.before.before.before.before.before.before.before.before.before.before.before.before.before.before.before.before in
+    let s = c in
     let k = c.close_block-closed in
     let wr = c.write_result in
     record {

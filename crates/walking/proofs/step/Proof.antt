@@ -19,11 +19,12 @@ use Rattle.walking.specs.Going.{reading_under, ClosedBy}
 use Rattle.walking.specs.ReadingOn.{found-counted, may_close}
 use Rattle.walking.specs.NextTurn.{kk_turn, zz_turn}
 use Rattle.walking.proofs.step.Statement.{statement}
+use Rattle.walking.proofs.step.Lts.{in-Opened, in-Ended}
 use Rattle.walking.proofs.step.Tie as tie
 
 -- what was read, where the turn began, and the open block's words then
 abbrev entry : tie.After-read_on-got → tie.Start
-entry c = c.before.before.before.before.before.before.before
+entry c = c.before.before.before.before.before.before.before.before
 
 abbrev cards : tie.After-read_on-got → List ℕ
 cards c = c.read_on-got.new.cards
@@ -50,7 +51,7 @@ read c = c.before.before.before
 
 which : (c : tie.Joined-event)
     → (((read c).read_on-got.result.event ≡ event.Opened) × (c.match-event.ended ≡ false)) ⊎ (((read c).read_on-got.result.event ≡ event.Ended) × (c.match-event.ended ≡ true))
-which c = ⊎_elim (λ w. inl (w.1.given.1, w.2)) (λ w. inr (w.1.given.1, w.2)) c.match-event.branch
+which c = elim c.match-event.branch [ in-Opened w ↦ inl (w.in-Opened.is, w.ended-is) | in-Ended w ↦ inr (w.in-Ended.is, w.ended-is) ]
 
 is_kk : (c : tie.Joined-event) → c.match-event.ended ≡ false → (read c).read_on-got.result.event ≡ event.Opened
 is_kk c h = ⊎_elim (λ w. w.0) (λ w. absurd (true≢false (sym w.1 ∙ h))) (which c)
@@ -62,12 +63,12 @@ onward : (c : tie.Joined-event) → Goes_on (read c)
 onward c = ⊎_elim (λ w. goes_by (read c) event.Opened w.0) (λ w. goes_by (read c) event.Ended w.0) (which c)
 
 read-under-requires : tie.Need-read_under-requires
-read-under-requires c κs = (onward c).ready.few-ratios
+read-under-requires c κs = (onward c.before).ready.few-ratios
 
 close-open-requires : tie.Need-close_open-closed-requires
 close-open-requires c κs =
     let u = c.before.before.before.before in
-    let m = u.before in
+    let m = u.before.before in
     let p = read m in
     let x = (entry p).args in
     let g = p.read_on-got.result in
@@ -85,7 +86,7 @@ abbrev rated : tie.After-slice_known-8-1 → tie.After-read_under
 rated c = c.before.before.before.before.before.before.before.before.before.before.before
 
 abbrev mark : tie.After-slice_known-8-1 → tie.Joined-event
-mark c = (rated c).before
+mark c = (rated c).before.before
 
 abbrev closed : tie.After-slice_known-8-1 → tie.After-close_open-closed
 closed c = c.before.before.before.before.before.before
@@ -94,24 +95,24 @@ closed_by : (c : tie.After-slice_known-8-1)
     → let x = (entry (read (mark c))).args in
     let k = (closed c).close_open-closed in
     let r = (read (mark c)).read_on-got.result.reading in
-    ClosedBy r.phase (reading_under x.place r) x.s.held x.s.blocks x.named x.place k.result x.work.now k.last.1.1.1.1.0
-    x.ordinates.now k.last.1.1.1.1.1.0 x.records.now k.last.1.1.1.1.1.1.0 (cards (read (mark c)))
+    ClosedBy r.phase (reading_under x.place r) x.s.held x.s.blocks x.named x.place k.result x.work.now k.new.work
+    x.ordinates.now k.new.ordinates x.records.now k.new.records (cards (read (mark c)))
 closed_by c =
     let x = (entry (read (mark c))).args in
     let k = (closed c).close_open-closed in
     subst
     (λ (u : Reading).
-    ClosedBy u.phase u x.s.held x.s.blocks x.named x.place k.result x.work.now k.last.1.1.1.1.0
-    x.ordinates.now k.last.1.1.1.1.1.0 x.records.now k.last.1.1.1.1.1.1.0 (cards (read (mark c))))
+    ClosedBy u.phase u x.s.held x.s.blocks x.named x.place k.result x.work.now k.new.work
+    x.ordinates.now k.new.ordinates x.records.now k.new.records (cards (read (mark c))))
     (rated c).read_under.ensures k.ensures
 
 open-next-requires : tie.Need-open_next-requires
-open-next-requires c κs = let o = onward (mark c.before.before) in (o.letters, o.ready)
+open-next-requires c κs = let o = onward (mark c.before.before.before.before) in (o.letters, o.ready)
 
 end-deck-requires : tie.Need-end_deck-requires
 end-deck-requires c κs =
-    let m = mark c.before.before.before in
-    let long = (closed c.before.before.before).close_open-closed.auto.work in
+    let m = mark c.before.before in
+    let long = (closed c.before.before).close_open-closed.auto.work in
     record { deep = omega arith; ordinates = (onward m).ready.few_ordinates; enough = omega (arith, long, (entry (read m)).requires.held.fits.enough) }
 
 returns : tie.Need-returns-in-Refused
@@ -145,23 +146,23 @@ returns-3 c =
     let t = c.end_deck in
     zz_turn x.deck.now x.named x.place (length x.ordinates.now) (length x.records.now) x.s x.work.now x.ordinates.now x.records.now x.cards.now (entry p).requires
     p.read_on-got.result.reading p.read_on-got.result.line p.read_on-got.result.at (cards p) (onward m).ready k.result _ _ _ (closed_by c.before.before.before.before.before)
-    k.kept.1.1.1.1.0 k.kept.1.1.1.1.1.0 k.kept.1.1.1.1.1.1.0 t.result (found p _ is) _ t.ensures
+    k.auto.work k.auto.ordinates k.auto.records t.result (found p _ is) _ t.ensures
 
 same-length-10 : tie.Need-shape_of-cards
-same-length-10 c = c.open_next.auto.cards ∙ cards-long (read (mark c.before.before.before.before.before))
+same-length-10 c = c.open_next.auto.cards ∙ cards-long (read (mark c.before.before.before.before.before.before.before))
 
 returns-4 : tie.Need-returns
 returns-4 c =
-    let m = mark c.before.before.before.before.before in
+    let m = mark c.before.before.before.before.before.before.before in
     let p = read m in
     let x = (entry p).args in
     let is = is_kk m c.if-ended.false in
     let o = onward m in
-    let k = (closed c.before.before.before.before.before).close_open-closed in
+    let k = (closed c.before.before.before.before.before.before.before).close_open-closed in
     let t = c.open_next in
     kk_turn x.deck.now x.named x.place (length x.ordinates.now) (length x.records.now) x.s x.work.now x.ordinates.now x.records.now x.cards.now (entry p).requires
-    p.read_on-got.result.reading p.read_on-got.result.line p.read_on-got.result.at (cards p) o.ready k.result _ _ _ (closed_by c.before.before.before.before.before)
-    k.kept.1.1.1.1.0 k.kept.1.1.1.1.1.0 k.kept.1.1.1.1.1.1.0 t.result p.read_on-got.result.name (found p _ is) o.within o.counted o.forth _ t.ensures
+    p.read_on-got.result.reading p.read_on-got.result.line p.read_on-got.result.at (cards p) o.ready k.result _ _ _ (closed_by c.before.before.before.before.before.before.before)
+    k.auto.work k.auto.ordinates k.auto.records t.result p.read_on-got.result.name (found p _ is) o.within o.counted o.forth _ t.ensures
 
 pub step_spec : {M : Type 1} → statement M
 step_spec =

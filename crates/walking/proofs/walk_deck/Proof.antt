@@ -35,7 +35,7 @@ loop-holds c =
     record { going = going; work_long = refl; ordinates_long = refl; records_long = refl; cards-long = refl }
 
 step-requires : tie.Need-step-t-requires invariant-loop decreases-loop
-step-requires c κs = let i = c.loop-worked.invariant in rw (i.ordinates-long, i.records-long) i.going
+step-requires c κs = let i = c.loop-worked.invariant in rw (i.ordinates_long, i.records_long) i.going
 
 -- A TURN TAKEN: where the walk began, what was lent as it then is, its lengths as they were lent, and what the turn comes to
 abbrev Stepped : Type 0
@@ -57,13 +57,13 @@ abbrev cards : Stepped → List ℕ
 cards c = c.step-t.new.cards
 
 work-kept : (c : Stepped) → length (work c) ≡ length (entry c).args.work.now
-work-kept c = c.step-t.auto.work ∙ c.loop-worked.invariant.work-long
+work-kept c = c.step-t.auto.work ∙ c.loop-worked.invariant.work_long
 
 ordinates-kept : (c : Stepped) → length (ordinates c) ≡ length (entry c).args.ordinates.now
-ordinates-kept c = c.step-t.auto.ordinates ∙ c.loop-worked.invariant.ordinates-long
+ordinates-kept c = c.step-t.auto.ordinates ∙ c.loop-worked.invariant.ordinates_long
 
 records-kept : (c : Stepped) → length (records c) ≡ length (entry c).args.records.now
-records-kept c = c.step-t.auto.records ∙ c.loop-worked.invariant.records-long
+records-kept c = c.step-t.auto.records ∙ c.loop-worked.invariant.records_long
 
 cards-kept : (c : Stepped) → length (cards c) ≡ length (entry c).args.cards.now
 cards-kept c =
@@ -74,7 +74,7 @@ turned : (c : Stepped) (t : Bool) → c.step-t.result.ended ≡ t
     → let x = (entry c).args in
     TurnBy t x.deck.now x.named x.place (length x.ordinates.now) (length x.records.now) c.loop-worked.s
     c.step-t.result.state c.step-t.result.worked (work c) (ordinates c) (records c) (cards c)
-turned c t is = let i = c.loop-worked.invariant in rw (i.ordinates-long, i.records-long, is) at c.step-t.ensures
+turned c t is = let i = c.loop-worked.invariant in rw (i.ordinates_long, i.records_long, is) at c.step-t.ensures
 
 returns : tie.Need-returns-then-t invariant-loop decreases-loop
 returns c =
