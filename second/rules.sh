@@ -3,6 +3,7 @@
 # Holds docs/RULES.md against the definitions of crates/meaning/specs and against what the other files cite. The
 # repository is the one that this script stands in, or the folder named.
 # A definition is every name that a file introduces at its margin: functions, types, tables and theorems, public or not.
+# The definitions of a file of crates/meaning/proofs belong to the file of specs with the same name.
 # A member is a constructor of a type or a field of a record. A section of a file is what follows a heading '## ..' with
 # the file's path in backquotes, up to the next such heading; indented lines are no part of it.
 # Each of these counts as one:
@@ -19,8 +20,9 @@ set -u
 root=${1:-$(CDPATH="" cd -- "$(dirname -- "$0")/.." && pwd -P)} || exit 2
 cd -- "$root" || exit 2
 specs=crates/meaning/specs
+proofs=crates/meaning/proofs
 rules=docs/RULES.md
-for file in "$rules" "$specs/Lib.antt" hec1; do
+for file in "$rules" "$specs/Lib.antt" "$proofs/Lib.antt" hec1; do
     if [ ! -r "$file" ]; then
         echo "rules.sh: no $file" >&2
         exit 2
@@ -206,7 +208,7 @@ said=$(awk -v specs="$specs" -v rules="$rules" '
         }
         print all + 0 " definitions and " parts + 0 " members of " count + 0 " files, " titles + 0 " headings and " requests + 0 " requests cited"
         print passed + 0, failed + 0
-    }' part=lib "$specs/Lib.antt" part=hec1 hec1 part=specs "$specs"/*.antt part=rules "$rules" part=cited "$@") || exit 2
+    }' part=lib "$specs/Lib.antt" part=hec1 hec1 part=specs "$specs"/*.antt "$proofs"/*.antt part=rules "$rules" part=cited "$@") || exit 2
 newline='
 '
 counts=${said##*"$newline"}

@@ -12,7 +12,8 @@ use Rattle.meaning.specs.Run.{Outcome, Lent, deck_size}
 use Rattle.meaning.specs.Run as run
 use Rattle.network.specs.Network.{network_of}
 use Rattle.network.specs.Order.{PairOff, said, Sound, Enough}
-use Rattle.network.specs.Point3.{OrderFree, order_does_not_matter}
+use Rattle.network.specs.Point3.{OrderFree}
+use Rattle.network.proofs.Point3.{order_does_not_matter}
 use Rattle.answers.specs.declared.Answer.TheVariants.{Accepted}
 use Rattle.answers.specs.Answers.{outcome_is, lent_as}
 use Rattle.engine.proofs.run.Kinds as kinds

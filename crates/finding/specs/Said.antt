@@ -12,7 +12,8 @@ use Rattle.meaning.specs.Results.{Result, blocks_of}
 use Rattle.meaning.specs.Run.{Reading, BeforeTime, BeforeBlocks, InBlock, Event, read_line, Done, worked, block_count}
 use Rattle.passes.specs.Does.{Does, refuses, waits, times, passes, begins, ends_empty, fills, turns, ends, does}
 use Rattle.network.specs.Order.{Said, Unsound, Sound, said_after, said_by, said_from, said}
-use Rattle.network.specs.WorkedBlocks.{done_as_said, blocks_under, count_blocks}
+use Rattle.network.specs.WorkedBlocks.{blocks_under, count_blocks}
+use Rattle.network.proofs.WorkedBlocks.{done_as_said}
 use Rattle.finding.specs.Place.{Place, At, place_by, block_at}
 
 -- so many blocks stand before it in those that are said

@@ -1,2 +1,2 @@
--- Theorems that rest on others.
-pub mod SameZeros
+-- Theorems that rest on others, each in the file of the same name as that of specs/ whose figures it is by.
+pub mod Zeros

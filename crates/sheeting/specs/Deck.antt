@@ -14,7 +14,8 @@ use Rattle.meaning.specs.Sheet.{sheet_in, sheet}
 use Rattle.answers.specs.declared.Answer as engine
 use Rattle.answers.specs.declared.Answer.TheVariants as answer
 use Rattle.answers.specs.Answers.{answer_is, outcome_is}
-use Rattle.network.specs.WorkedBlocks.{done_as_said, as_many_under}
+use Rattle.network.specs.WorkedBlocks.{as_many_under}
+use Rattle.network.proofs.WorkedBlocks.{done_as_said}
 use Rattle.listing.specs.Sizes.{records_size}
 use Rattle.listing.specs.Printed.{lent_room}
 use Rattle.listing.specs.Naming.{number_of, Named, accepted-named, refused-shown, accepted-shown, said}

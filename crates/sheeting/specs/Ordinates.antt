@@ -15,7 +15,8 @@ use Rattle.passes.specs.Together.{some_ratio, ratio-at}
 use Rattle.network.specs.Steps.{closed_from}
 use Rattle.network.specs.Order.{Enough}
 use Rattle.network.specs.Answers.{enough_room, Passed, passed_accepted}
-use Rattle.network.specs.WorkedBlocks.{closed_under, DoneAs, done_as_said, as_many_under, count_blocks}
+use Rattle.network.specs.WorkedBlocks.{closed_under, DoneAs, as_many_under, count_blocks}
+use Rattle.network.proofs.WorkedBlocks.{done_as_said}
 use Rattle.listing.specs.Fitting.{done_fits}
 use Rattle.listing.specs.Naming.{number_within}
 use Rattle.columns.specs.Columns.{block_sums}
