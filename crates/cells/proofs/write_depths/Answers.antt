@@ -17,10 +17,7 @@ write_depth-requires c =
 
 pub returns : goal.returns
 returns c =
-    let excess = c in
-    let loss = excess in
-    let rain = loss in
-    let x = rain.args in
+    let x = c.args in
     let first = depth_short (measure_is x.measure) x.rain in
     let second = depth_short (measure_is x.measure) x.loss in
-    written_more (omega arith) (written_more (omega arith) rain.write_depth-second.ensures loss.write_depth-third.ensures) excess.write_depth.ensures
+    written_more (omega arith) (written_more (omega arith) c.write_depth-second.ensures c.write_depth-third.ensures) c.write_depth.ensures

@@ -15,12 +15,8 @@ write_six_places-requires c =
 
 pub returns-in-Units : goal.returns-in-Units
 returns-in-Units c =
-    let told = c in
-    let comma = told in
-    rw told.in-Units.is (written_more (omega arith) comma.write_byte-next.ensures c.write_whole.ensures)
+    rw c.in-Units.is (written_more (omega arith) c.write_byte-next.ensures c.write_whole.ensures)
 
 pub returns-in-Customary : goal.returns-in-Customary
 returns-in-Customary c =
-    let told = c in
-    let comma = told in
-    rw told.in-Customary.is (written_more (omega arith) comma.write_byte-next.ensures c.write_six_places.ensures)
+    rw c.in-Customary.is (written_more (omega arith) c.write_byte-next.ensures c.write_six_places.ensures)

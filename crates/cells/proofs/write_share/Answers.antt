@@ -21,10 +21,9 @@ returns-then-units-j c =
 -- the share is far below 64 bits
 pub overflow_mul-units : goal.overflow_mul-units
 overflow_mul-units c =
-    let s = c in
-    let x = s.args in
+    let x = c.args in
     let unit = get_or x.units.now (x.i - x.k) 0 in
-    let product : unit * x.excess ≤ most_unit * most_depth = mul-le-mul (s.requires.0 (x.i - x.k)) s.requires.1 in
+    let product : unit * x.excess ≤ most_unit * most_depth = mul-le-mul (c.requires.0 (x.i - x.k)) c.requires.1 in
     omega arith
 
 pub returns : goal.returns

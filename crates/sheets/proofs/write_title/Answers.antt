@@ -29,18 +29,13 @@ write_byte-requires c =
 pub returns : goal.returns
 unfolding title_line
 returns c =
-    let end = c in
-    let name = end in
-    let comma = name in
-    let ratio = comma in
-    let first = ratio in
-    let x = first.args in
+    let x = c.args in
     let measure = measure_short (measure_is x.measure) in
     let places = ratio_within x.ratio in
     written_more (omega arith)
     (written_more (omega arith)
     (written_more (omega arith)
-    (written_more (omega arith) first.write_measure-second.ensures ratio.write_two_places-comma.ensures)
-    comma.write_byte-third.ensures)
-    name.write_text-end.ensures)
-    end.write_byte.ensures
+    (written_more (omega arith) c.write_measure-second.ensures c.write_two_places-comma.ensures)
+    c.write_byte-third.ensures)
+    c.write_text-end.ensures)
+    c.write_byte.ensures

@@ -9,8 +9,7 @@ use Rattle.streams.proofs.case_of.Goals as goal
 
 pub returns : goal.returns
 returns c =
-    let known = c in
-    let head = known.args.head.now in
+    let head = c.args.head.now in
     let bytes : AllUpTo 255 head = λ (k : ℕ). grind arith in
     let below : (at : ℕ) → at + 4 ≤ length head → from_little_endian (part at 4 head) < 256 ^ 4 =
     λ (at : ℕ) (fits : at + 4 ≤ length head). rw (length_part at 4 head fits) at (value_below (part at 4 head) (bound_part 255 at 4 head bytes)) in

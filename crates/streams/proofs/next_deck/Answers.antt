@@ -4,5 +4,4 @@ use Rattle.streams.proofs.next_deck.Goals as goal
 
 pub returns-in-Number : goal.returns-in-Number
 returns-in-Number c =
-    let d = c in
-    kept_fits d.in-Number.size d.read_deck.new.deck d.read_deck.result d.read_deck.ensures
+    kept_fits c.in-Number.size c.read_deck.new.deck c.read_deck.result c.read_deck.ensures
