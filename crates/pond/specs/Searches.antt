@@ -117,7 +117,9 @@ module _ (m : ℕ) (svs sqs ws rises : List ℕ) (s : Span) (x : Sought m svs sq
       pub climb-found : Climbed ws s.row w k → s.low ≤ w → w ≤ no_w → Found m svs sqs (span_in sqs ws rises row) w
       climb-found p from up =
           let inside = climb_inside in
-          let under : k < length svs = passed_under ws s.row w k row-topped up p.passed in
+          let topped : Topped ws s.row =
+          record { top = length svs; ahead = omega (arith, x.span.inside); inside = omega (arith, x.table.few, x.levels.long); most = x.levels.behind } in
+          let under : k < length svs = passed_under ws s.row w k topped up p.passed in
           let start = p.passed.up in
           let first = x.span.inside in
           let above : get_or ws row 0 ≤ w =
