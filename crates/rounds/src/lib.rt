@@ -1,4 +1,6 @@
 // The rounds of a run: a walk over the deck under each ratio in turn, and of what they come to that which is met first.
+#![tactic(auto)]
+
 ghost use Rattle.std.specs.Prelude.{◌≡◌, ◌+◌, ◌≤◌, ◌<◌, length, replicate};
 ghost use Rattle.meaning.specs.Records.{table};
 ghost use Rattle.meaning.specs.Run.{work_size};

@@ -6,7 +6,7 @@ use Rattle.std.specs.Prelude.{ℕ, ◌+◌, ◌/◌, ◌%◌, ◌^◌, ◌<◌, 
 use Rattle.std.proofs.Math.Path.{sym, ap}
 use Rattle.std.proofs.Common.{◌∙◌, get_or-append-add}
 use Rattle.std.proofs.Math.Bool.{true}
-use borrow.Author.Tests.{eqb-true, not_false}
+use borrow.Author.Tests.{eqb-true, not-false}
 use Rattle.std.proofs.Math.Seq.{take_at, drop_at}
 use Rattle.meaning.specs.Words.{same}
 use Rattle.meaning.specs.Water.{sum_of}
@@ -63,7 +63,7 @@ module _ (ratio place : ℕ) (r : Result) (named : Named r) where
   pub record_other : ratio < 256 ^ 2 → place < 256 ^ 2 → other_ratio (record_of ratio place r) ≡ false → (ratio ≡ 100) × (place ≡ 1)
   unfolding same
   record_other small near plain =
-      let all : same (take 4 (label_of ratio place)) whole_ratio ≡ true = not_false _ (sym other_by ∙ plain) in
+      let all : same (take 4 (label_of ratio place)) whole_ratio ≡ true = not-false _ (sym other_by ∙ plain) in
       let a = both_hold _ _ all in
       let b = both_hold _ _ a.1 in
       let c = both_hold _ _ b.1 in

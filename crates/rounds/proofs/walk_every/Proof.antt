@@ -35,38 +35,38 @@ record Goes (deck : List ℕ) (wanted : Wanted) (work₀ ordinates₀ records₀
   records_long : length records ≡ length records₀
   cards-long : length cards ≡ words_of table
 
-abbrev invariant-loop : tie.invariant-loop
+abbrev invariant-loop : tie.invariant-loop-place
 invariant-loop deck wanted work₀ ordinates₀ records₀ cards₀ ratios count found₀ place₀ work ordinates records cards found place =
     Goes deck wanted work₀ ordinates₀ records₀ ratios count work ordinates records cards found place
 
-abbrev decreases-loop : tie.decreases-loop
+abbrev decreases-loop : tie.decreases-loop-place
 decreases-loop deck wanted work₀ ordinates₀ records₀ cards₀ ratios count found₀ place₀ work ordinates records cards found place = count - place
 
 -- THE FIRST ROUND, before the loop, and where the function began
 abbrev Begin : Type 0
-Begin = tie.After-walk-first invariant-loop decreases-loop
+Begin = tie.After-walk_first-first invariant-loop decreases-loop
 
 abbrev entry : Begin → tie.Start invariant-loop decreases-loop
 entry c = c.before.before.before.before.before.before.before.before.before
 
-walk-first-requires : tie.Need-walk-first-requires invariant-loop decreases-loop
-walk-first-requires c κs = let p = c.before.before.before.before.before.before.before.before.requires in ((p.0, omega arith), p.1)
+walk-first-requires : tie.Need-walk_first-first-requires invariant-loop decreases-loop
+walk-first-requires c κs = let p = c.requires in ((p.0, omega arith), p.1)
 
-count-of-requires : tie.Need-count-of-requires invariant-loop decreases-loop
-count-of-requires c κs = c.before.before.before.before.before.before.before.before.walk_first.ensures.few-ratios
+count-of-requires : tie.Need-count_of-count-requires invariant-loop decreases-loop
+count-of-requires c κs = c.walk_first-first.ensures.few-ratios
 
-ordinates-kept : (c : Begin) → length c.walk_first.new.1.1.1.0 ≡ length (entry c).args.ordinates.now
-ordinates-kept c = c.walk_first.auto.1.1.1.0
+ordinates-kept : (c : Begin) → length c.walk_first-first.new.ordinates ≡ length (entry c).args.ordinates.now
+ordinates-kept c = c.walk_first-first.auto.ordinates
 
-records-kept : (c : Begin) → length c.walk_first.new.1.1.1.1.0 ≡ length (entry c).args.records.now
-records-kept c = c.walk_first.auto.1.1.1.1.0
+records-kept : (c : Begin) → length c.walk_first-first.new.records ≡ length (entry c).args.records.now
+records-kept c = c.walk_first-first.auto.records
 
-loop-holds : tie.Need-loop-init invariant-loop decreases-loop
+loop-holds : tie.Need-loop-place-init invariant-loop decreases-loop
 loop-holds c =
     let w = c.before.before.before.before.before.before.before.before.before.before in
-    let b = w.walk_first.ensures in
-    let n = c.before.count_of.ensures in
-    let nine = counted_nine w.walk_first.result.ratios b.few-ratios in
+    let b = w.walk_first-first.ensures in
+    let n = c.count_of-count.ensures in
+    let nine = counted_nine w.walk_first-first.result.ratios b.few-ratios in
     record {
       rounds = rw (ordinates-kept w, records-kept w) b.rounds;
       counted = n ∙ b.ratios;
@@ -78,40 +78,40 @@ loop-holds c =
       work_long = refl;
       ordinates_long = refl;
       records_long = refl;
-      cards-long = w.walk_first.auto.1.1.1.1.1.0;
+      cards-long = w.walk_first-first.auto.cards;
     }
 
 -- A ROUND MORE
 abbrev Turn : Type 0
-Turn = tie.In-loop invariant-loop decreases-loop
+Turn = tie.In-loop-place invariant-loop decreases-loop
 
 abbrev begin : Turn → Begin
 begin c = c.before.before.before.before.before.before.before.before.before.before.before.before
 
-slice-aggregate-walk-next : tie.Need-slice-aggregate-walk-next invariant-loop decreases-loop
-slice-aggregate-walk-next c = sym c.before.before.before.before.before.loop.invariant.cards-long
+slice-aggregate-walk-next : tie.Need-slice_bounds-walk_next-end invariant-loop decreases-loop
+slice-aggregate-walk-next c = sym c.loop-place.invariant.cards-long
 
-walk-next-requires : tie.Need-walk-next-requires invariant-loop decreases-loop
+walk-next-requires : tie.Need-walk_next-found-requires invariant-loop decreases-loop
 walk-next-requires c κs =
     let t = c.before.before.before.before in
-    let v = t.before.loop.invariant in
+    let v = t.loop-place.invariant in
     let w = begin t in
-    let enough = (entry w).pre.0 in (
+    let enough = (entry w).requires.0 in (
       (omega (arith, enough, v.work_long, w.walk_first.kept.1.1.0), omega (arith, v.cards-long)),
       ((omega (arith, v.counted), omega (arith, v.nine)), rw (v.ordinates_long, v.records_long) v.rounds),
     )
 
-add-place : tie.Need-overflow-add-place invariant-loop decreases-loop
-add-place c = let v = c.before.before.before.before.before.before.before.before.before.before.before.before.before.loop.invariant in record { fits = omega (arith, v.up, v.nine) }
+add-place : tie.Need-overflow_add-place invariant-loop decreases-loop
+add-place c = let v = c.loop-place.invariant in record { fits = omega (arith, v.up, v.nine) }
 
-loop-less : tie.Need-loop-smaller invariant-loop decreases-loop
+loop-less : tie.Need-loop-place-smaller invariant-loop decreases-loop
 loop-less c = omega arith
 
-loop-again : tie.Need-loop-preserved invariant-loop decreases-loop
+loop-again : tie.Need-loop-place-preserved invariant-loop decreases-loop
 loop-again c =
     let t = c.before.before.before.before.before.before.before.before.before.before.before.before in
-    let v = t.before.loop.invariant in
-    let w = c.before.before.before.before.before.before.before.walk-next in
+    let v = t.loop-place.invariant in
+    let w = c.walk_next-found in
     record {
       rounds = rw (v.ordinates_long, v.records_long) at w.ensures;
       counted = v.counted;
@@ -120,25 +120,25 @@ loop-again c =
       nine = v.nine;
       listed = v.listed;
       up = omega arith;
-      work_long = w.auto.1.1.1.1.0 ∙ v.work_long;
-      ordinates_long = w.auto.1.1.1.1.1.0 ∙ v.ordinates_long;
-      records_long = w.auto.1.1.1.1.1.1.0 ∙ v.records_long;
-      cards-long = w.auto.1.1.1.1.1.1.1.0 ∙ v.cards-long;
+      work_long = w.auto.work ∙ v.work_long;
+      ordinates_long = w.auto.ordinates ∙ v.ordinates_long;
+      records_long = w.auto.records ∙ v.records_long;
+      cards-long = w.auto.cards ∙ v.cards-long;
     }
 
 returns : tie.Need-returns invariant-loop decreases-loop
 returns c =
-    let l = c.before.loop in
+    let l = c.loop-place in
     let v = l.invariant in
     let b = c.before.before.before.before.before.before.before.before.before.before.before.before in
     every_is (entry b).args.deck.now (entry b).args.wanted (length (entry b).args.ordinates.now) (length (entry b).args.records.now) _ l.ordinates l.records l.place
     (rw (ordinates-kept b, records-kept b) at v.rounds) (omega (arith, v.counted)) v.many v.few v.listed
 
-pub walk-every-spec : {M : Type 1} → statement M
-walk-every-spec =
+pub walk_every_spec : {M : Type 1} → statement M
+walk_every_spec =
     tie.close
     (tie.spec
     invariant-loop decreases-loop (λ c. search rules) walk-first-requires count-of-requires loop-holds slice-aggregate-walk-next walk-next-requires add-place loop-less loop-again
-    (λ c. c.before.loop.invariant.work_long ∙ c.before.before.before.before.before.before.before.before.before.before.before.before.walk_first.auto.1.1.0)
-    (λ c. c.before.loop.invariant.ordinates_long ∙ ordinates-kept c.before.before.before.before.before.before.before.before.before.before.before.before)
-    (λ c. c.before.loop.invariant.records_long ∙ records-kept c.before.before.before.before.before.before.before.before.before.before.before.before) returns)
+    (λ c. c.loop-place.invariant.work_long ∙ c.walk_first-first.auto.work)
+    (λ c. c.loop-place.invariant.ordinates_long ∙ ordinates-kept c.before.before.before.before.before.before.before.before.before.before.before.before)
+    (λ c. c.loop-place.invariant.records_long ∙ records-kept c.before.before.before.before.before.before.before.before.before.before.before.before) returns)
