@@ -97,7 +97,7 @@ walk-next-requires c κs =
     let v = t.loop-place.invariant in
     let w = begin t in
     let enough = (entry w).requires.0 in (
-      (omega (arith, enough, v.work_long, w.walk_first.kept.1.1.0), omega (arith, v.cards-long)),
+      (omega (arith, enough, v.work_long, w.walk_first-first.auto.work), omega (arith, v.cards-long)),
       ((omega (arith, v.counted), omega (arith, v.nine)), rw (v.ordinates_long, v.records_long) v.rounds),
     )
 
