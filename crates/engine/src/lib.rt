@@ -1,4 +1,6 @@
 // The run: the sizes looked at, the deck walked under every ratio, and what comes back.
+#![tactic(auto)]
+
 ghost use Rattle.std.specs.Prelude.{◌≡◌, [], ◌≤◌, length};
 ghost use Rattle.meaning.specs.Run.{refused, outcome};
 ghost use Rattle.blocks.specs.Meant.{ratios_is};
