@@ -1,5 +1,7 @@
 // Cases from standard input, each the named block, the named ratio, the work words, the ordinates, the record bytes and the deck's length, in 4 bytes each, and the deck.
 // Everything lent is filled with ones before a run. Of each: the answer, all ordinates, all record bytes, how many work words are not zero, and '--'.
+#![tactic(auto)]
+
 ghost use Rattle.std.specs.Prelude.{◌≤◌, length};
 
 use cases::Case;
