@@ -12,7 +12,7 @@ pub slice_bounds-lend-end : goal.slice_bounds-lend-end
 slice_bounds-lend-end c =
     let d = c.read_deck in
     let size = c.in-Run.case.size in
-    let least = of_number (λ (n : ℕ). n ≡ min size (length d.new.rt)) c.in-Number.is d.ensures in
+    let least = of_number (λ (n : ℕ). n ≡ min size (length d.new.deck)) c.in-Number.is d.ensures in
     omega arith
 
 pub slice_bounds-lend-end-in-Number : goal.slice_bounds-lend-end-in-Number

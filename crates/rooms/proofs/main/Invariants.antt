@@ -5,7 +5,7 @@ use lib.ListN.{length}
 use Rattle.rooms.proofs.main.Given as goal
 
 abbrev pub invariant-loop-turns : goal.invariant-loop-turns
-invariant-loop-turns l = length l.initial.turns ≡ 60_001
+invariant-loop-turns l = length l.deck ≡ 60_001
 
 abbrev pub decreases-loop-turns : goal.decreases-loop-turns
-decreases-loop-turns l = l.deck
+decreases-loop-turns l = l.turns
