@@ -1,5 +1,7 @@
 // Cases from standard input, each the number of a refusal (6, or any other for 7), a form (0 fixed, any other free) and a length, in 4 bytes each, the lowest first, and
 // bytes that begin with the refused line. The reasons go to standard output, each before a line '--'.
+#![tactic(auto)]
+
 use streams::{Asked, Next};
 
 // Answers whether the reason and the line behind it were written.

@@ -1,7 +1,5 @@
 -- As many as the line has, or as the record names, if these are more.
-use Prim.Native.Nat.{◌-◌}
 use native.Mathlib.Omega.{arith}
-use borrow.Author.Rules.{rules}
 use Rattle.fields.specs.Spans.{form_of}
 use Rattle.reasons.specs.FirstFields.{stated_long}
 use Rattle.reasons.proofs.fields_to_see.Goals as goal

@@ -1,7 +1,6 @@
 -- JR names its word and one ratio; any other record as many as its row says.
 use Prim.Native.Nat.{zero-le}
 use mathlib.Core.Path.{refl}
-use borrow.Author.Rules.{rules}
 use borrow.Author.Tests.{eq-eqb, ne_eqb}
 use native.Mathlib.Omega.{arith}
 use Rattle.sequences.specs.Choices.{taken, passed}

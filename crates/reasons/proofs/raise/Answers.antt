@@ -1,5 +1,4 @@
 -- Each arm is that of the definition.
-use borrow.Author.Rules.{rules}
 use Rattle.reasons.proofs.raise.Goals as goal
 
 pub returns-in-Limited : goal.returns-in-Limited

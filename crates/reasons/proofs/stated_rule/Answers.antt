@@ -1,6 +1,5 @@
 -- The rule of the reading; of JR a number's lowest value is raised to 1.
 use mathlib.Core.Path.{sym, ap, ◌∙◌}
-use borrow.Author.Rules.{rules}
 use Rattle.meaning.specs.Records.{rule_at}
 use Rattle.records.specs.Rows.{rules_by}
 use Rattle.records.specs.OwnRules.{few_places}

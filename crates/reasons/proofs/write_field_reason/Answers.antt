@@ -1,5 +1,4 @@
 -- By the rule.
-use borrow.Author.Rules.{rules}
 use Rattle.meaning.specs.Reasons.{field_reason}
 use Rattle.reasons.proofs.write_field_reason.Goals as goal
 

@@ -1,7 +1,6 @@
 -- By the line's head: the record that it holds.
 use mathlib.Core.Path.{◌≡◌, sym, ap, subst, ◌∙◌}
 use borrow.Author.Rules.{rules}
-use Rattle.meaning.specs.Run as run
 use Rattle.identifiers.specs.declared.Head.{Head}
 use Rattle.identifiers.specs.Heads.{head_is, Inside, plain_head}
 use Rattle.text.specs.Written.{written_none}
