@@ -1,4 +1,6 @@
 // One block of a deck, by its number: the deck is read up to the line that closes the block, and its values are then in the lent cards. No hydrograph is made.
+#![tactic(auto)]
+
 ghost use Rattle.std.specs.Prelude.{◌≡◌, ◌≤◌, length};
 ghost use Rattle.meaning.specs.Lines.{lines_of};
 ghost use Rattle.meaning.specs.Fields.{Fixed};

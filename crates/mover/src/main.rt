@@ -1,5 +1,7 @@
 // Cases from standard input, each the direction (0 to the new form, 1 to the old), the bytes of room and the file's length, in 4 bytes each, and the file.
 // The room is filled with ones before a move. Of each: the answer, all bytes of the room, and '--'.
+#![tactic(auto)]
+
 ghost use Rattle.std.specs.Prelude.{◌≤◌, length};
 
 use moves::Case;
