@@ -1,5 +1,7 @@
 // The hydrograph of one block of a deck in print. The engine is run; where it accepts the deck, the ordinates that it leaves for the block are written, each behind
 // its interval and the end of it.
+#![tactic(auto)]
+
 ghost use Rattle.std.specs.Prelude.{◌≡◌, ◌+◌, ◌≤◌, ◌<◌, length};
 ghost use Rattle.meaning.specs.Lines.{lines_of};
 ghost use Rattle.meaning.specs.Fields.{Fixed};

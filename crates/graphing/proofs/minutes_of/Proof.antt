@@ -11,23 +11,23 @@ use Rattle.graphing.proofs.minutes_of.Tie as tie
 
 -- THE BLOCK, where it is found
 abbrev Found : Type 0
-Found = tie.After-find-block
+Found = tie.After-find_block-found
 
 abbrev place : Found → Place
-place c = block_at (lines_of c.before.before.before.args.deck.now) (BeforeTime Fixed) 1
+place c = block_at (lines_of c.args.deck.now) (BeforeTime Fixed) 1
 
-returns : tie.Need-returns
+returns : tie.Need-returns-then-found
 returns c =
     let found : Found = c.before.before in
-    minutes_there found.find-block.result found.find-block.new.1.1.0 (place found) found.find-block.ensures c.if1.true
+    minutes_there found.find_block-found.result found.find_block-found.new.cards (place found) found.find_block-found.ensures c.if-found.true
 
-returns-2 : tie.Need-returns-2
+returns-2 : tie.Need-returns
 returns-2 c =
     let found : Found = c.before.before in
-    (no_minutes found.find-block.result found.find-block.new.1.1.0 (place found) found.find-block.ensures c.if1.false, omega arith)
+    (no_minutes found.find_block-found.result found.find_block-found.new.cards (place found) found.find_block-found.ensures c.if-found.false, omega arith)
 
-pub minutes-of-spec : {M : Type 1} → statement M
-minutes-of-spec =
+pub minutes_of_spec : {M : Type 1} → statement M
+minutes_of_spec =
     tie.close
     (tie.spec
     (λ c. search rules)  -- slice-aggregate-find-block
