@@ -1,5 +1,7 @@
 // The hand sheet of one block of a deck. The engine is run; where it accepts the deck, the block is found, its columns are made, and they are put in print.
 // Each function writes from the first byte on and answers the place behind what it wrote.
+#![tactic(auto)]
+
 ghost use Rattle.std.specs.Prelude.{◌≡◌, ◌++◌, ◌-◌, ◌≤◌, length};
 ghost use Rattle.meaning.specs.Lines.{lines_of};
 ghost use Rattle.meaning.specs.Fields.{Fixed};

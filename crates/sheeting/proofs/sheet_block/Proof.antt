@@ -20,48 +20,48 @@ use Rattle.sheeting.proofs.sheet_block.Tie as tie
 
 -- THE BLOCK, where it is found
 abbrev Found : Type 0
-Found = tie.After-find-block
+Found = tie.After-find_block-found
 
 abbrev place : Found → Place
-place c = block_at (lines_of c.before.before.before.before.args.deck.now) (BeforeTime Fixed) c.before.before.before.before.args.number
+place c = block_at (lines_of c.args.deck.now) (BeforeTime Fixed) c.args.number
 
-ratio-at-requires : tie.Need-ratio-at-requires
+ratio-at-requires : tie.Need-ratio_at-rate-requires
 ratio-at-requires c κs =
     let found = c.before.before.before.before.before.before in
-    few_listed found.find-block.result found.find-block.new.1.1.0 (place found) found.find-block.ensures c.before.before.if1.true
+    few_listed found.find_block-found.result found.find_block-found.new.cards (place found) found.find_block-found.ensures c.if-found.true
 
 -- what is shown of it, under the ratio that was looked up
-shown : (c : tie.After-under) → let f = c.before.before.before.before.before.before.before.before.before in Shown (place f) f.find-block.result f.find-block.new.1.1.0 (f.before.before.before.before.args.ratio - 1) c.before.before.ratio-at.result
+shown : (c : tie.After-under) → let f = c.before.before.before.before.before.before.before.before.before in Shown (place f) f.find_block-found.result f.find_block-found.new.cards (f.args.ratio - 1) c.ratio_at-rate.result
 shown c =
     let f = c.before.before.before.before.before.before.before.before.before in
-    let own : c.before.before.before.before2.result ≡ f.before.before.before.before.args.ratio - 1 = omega (arith, c.before.before.before.before2.ensures) in
-    let x = f.find-block.result in
-    shown_there x f.find-block.new.1.1.0 (place f) f.find-block.ensures c.before.before.before.before.before.if1.true _ _
-    (c.before.before.ratio-at.ensures ∙ ap (λ (k : ℕ). get_or (ratios_is x.time.ratios) k 100) own)
+    let own : c.before-then-found.result ≡ f.args.ratio - 1 = omega (arith, c.before-then-found.ensures) in
+    let x = f.find_block-found.result in
+    shown_there x f.find_block-found.new.cards (place f) f.find_block-found.ensures c.if-found.true _ _
+    (c.ratio_at-rate.ensures ∙ ap (λ (k : ℕ). get_or (ratios_is x.time.ratios) k 100) own)
 
-write-sheet-requires : tie.Need-write-sheet-requires
+write-sheet-requires : tie.Need-write_sheet-requires
 write-sheet-requires c κs =
     let s = c.before.before.before.before.before.before.before.before.before.before.before.before.before.before in
     let sheet = shown c.before in
-    (rw c.before.under.ensures sheet.read, (sheet.letters, s.requires))
+    (rw c.under.ensures sheet.read, (sheet.letters, s.requires))
 
-returns : tie.Need-returns
+returns : tie.Need-returns-then-found
 returns c =
-    let under = c.before.before.before.before.under in
+    let under = c.under in
     let sheet = shown c.before.before.before.before in
-    let written = c.before.before.write-sheet in
-    let found = c.before.before.before.before.before.before.before.before.before.before.before.before.before.find-block in
-    let text = ap (λ (t : Time). sheet_text (time_is t) (block_of (name_is found.result.name) found.new.1.1.0)) under.ensures ∙ sheet.text in
-    subst (λ (t : List ℕ). Written c.before.before.before.before.before.before.before.before.before.before.before.before.before.before.before.before.before.args.out.now 0 t written.new.0 written.result) text written.ensures
+    let written = c.write_sheet in
+    let found = c.find_block-found in
+    let text = ap (λ (t : Time). sheet_text (time_is t) (block_of (name_is found.result.name) found.new.cards)) under.ensures ∙ sheet.text in
+    subst (λ (t : List ℕ). Written c.args.out.now 0 t written.new.out written.result) text written.ensures
 
-returns-2 : tie.Need-returns-2
+returns-2 : tie.Need-returns
 returns-2 c =
     let found = c.before.before.before.before in
-    let none = nothing_there found.find-block.result found.find-block.new.1.1.0 (place found) found.find-block.ensures c.if1.false (c.before.before.before.before.before.before.before.before.args.ratio - 1) in
-    rw none (written_none c.before.before.before.before.before.before.before.before.args.out.now 0)
+    let none = nothing_there found.find_block-found.result found.find_block-found.new.cards (place found) found.find_block-found.ensures c.if-found.false (c.args.ratio - 1) in
+    rw none (written_none c.args.out.now 0)
 
-pub sheet-block-spec : {M : Type 1} → statement M
-sheet-block-spec =
+pub sheet_block_spec : {M : Type 1} → statement M
+sheet_block_spec =
     tie.close
     (tie.spec
     (λ c. search rules) (λ c κs. search rules) (λ c κs. search rules) ratio-at-requires (λ c κs. search rules) (λ c. search rules) write-sheet-requires (λ c. search rules)

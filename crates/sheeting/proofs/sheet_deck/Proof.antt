@@ -12,28 +12,28 @@ use Rattle.sheeting.proofs.sheet_deck.Tie as tie
 
 -- THE RUN, and what was named
 abbrev Ran : Type 0
-Ran = tie.After-run
+Ran = tie.After-run-answer
 
-returns : tie.Need-returns
+returns : tie.Need-returns-in-Accepted
 returns c =
-    let ran : Ran = c.before.before.before.before.before.before.before.before.before.before.before.before in
-    let x = c.before.before.before.before.before.before.before.before.before.before.before.before.before.before.before.before.before.before.args in
-    let written = c.before.before.sheet-block in
-    let sheet =
-    sheet-accepted x.deck.now x.named x.ratio ran.run.result ran.run.ensures (omega arith) (omega arith) (omega arith) c.before.before.before.before.before.before.before.answer.given.1
-    _ _ c.before.before.before.before.before.number_of_lem.ensures c.before.before.before.before.number-of2.ensures in
-    (subst (λ (t : List ℕ). Written x.out.now 0 t written.new.1.1.1.0 written.result) sheet written.ensures, written_counted written.ensures)
-
-returns-2 : tie.Need-returns-2
-returns-2 c =
     let ran : Ran = c.before.before.before.before.before.before.before.before.before.before in
-    let x = c.before.before.before.before.before.before.before.before.before.before.before.before.before.before.before.before.args in
-    let written = c.before.before.write-refusal in
-    let sheet = sheet-refused x.deck.now x.named x.ratio ran.run.result ran.run.ensures (omega arith) (omega arith) (omega arith) c.before.before.before.before.before.answer2.given.1 in
-    (subst (λ (t : List ℕ). Written x.out.now 0 t written.new.0 written.result) sheet written.ensures, written_counted written.ensures)
+    let x = c.args in
+    let written = c.sheet_block in
+    let sheet =
+    sheet-accepted x.deck.now x.named x.ratio ran.run-answer.result ran.run-answer.ensures (omega arith) (omega arith) (omega arith) c.in-Accepted.is
+    _ _ c.number_of-block.ensures c.number_of-rate.ensures in
+    (subst (λ (t : List ℕ). Written x.out.now 0 t written.new.out written.result) sheet written.ensures, written_counted written.ensures)
 
-pub sheet-deck-spec : {M : Type 1} → statement M
-sheet-deck-spec =
+returns-2 : tie.Need-returns-in-Refused
+returns-2 c =
+    let ran : Ran = c.before.before.before.before.before.before.before.before in
+    let x = c.args in
+    let written = c.write_refusal in
+    let sheet = sheet-refused x.deck.now x.named x.ratio ran.run-answer.result ran.run-answer.ensures (omega arith) (omega arith) (omega arith) c.in-Refused.is in
+    (subst (λ (t : List ℕ). Written x.out.now 0 t written.new.out written.result) sheet written.ensures, written_counted written.ensures)
+
+pub sheet_deck_spec : {M : Type 1} → statement M
+sheet_deck_spec =
     tie.close
     (tie.spec
     (λ c. search rules) (λ c. search rules) (λ c. search rules) (λ c κs. search rules) (λ c. search rules) (λ c κs. search rules) (λ c κs. search rules) (λ c κs. search rules)

@@ -33,9 +33,9 @@ short s = let six : length s.args.name.bytes ≡ 6 = search rules in omega (arit
 
 -- WHAT WAS READ: the columns filled, and the unit ordinates
 abbrev Got : Type 0
-Got = tie.After-values
+Got = tie.After-values-units
 
-abbrev filled : Got → tie.After-fill-columns
+abbrev filled : Got → tie.After-fill_columns
 filled c = c.before.before.before.before.before.before.before.before.before.before
 
 abbrev entry : Got → tie.Start
@@ -54,35 +54,35 @@ module _ (c : Got) where
   within : StormWithin (unit_ordinates block) (rain_values block) (block_storm τ block) τ.ordinates
   within = read_within τ name (entry c).args.cards.now (entry c).requires.0
 
-array-share-prefix-bytes : tie.Need-array-share-prefix-bytes
+array-share-prefix-bytes : tie.Need-slice_bounds-bytes-end
 array-share-prefix-bytes c = short (entry c.before)
 
-slice-aggregate-write-tables : tie.Need-slice-aggregate-write-tables
+slice-aggregate-write-tables : tie.Need-slice_bounds-write_tables-end
 slice-aggregate-write-tables c = sym (length-take-le _ _ (short (entry c.before.before)))
 
-write-tables-requires : tie.Need-write-tables-requires
+write-tables-requires : tie.Need-write_tables-requires
 write-tables-requires c κs =
-    let got = c.before.before.before.before.before.before in
+    let got = c.before.before in
     let pre = (entry got).requires in
-    let columns = (filled got).fill-columns.ensures (name got) in
+    let columns = (filled got).fill_columns.ensures (name got) in
     let long = columns_long (τ got) (block got) (within got) columns in
     let letters : length (name got) ≡ (entry got).args.name.letters = length-take-le _ _ (short (entry got)) in (
-      rw (got.values.ensures (name got)) (columns-ruled (τ got) (block got) (within got) columns),
+      rw (got.values-units.ensures (name got)) (columns-ruled (τ got) (block got) (within got) columns),
       (long.0, omega (arith, long.1, pre.0.time.few_ordinates), omega (arith, letters, pre.1.1.0), pre.1.1.1),
     )
 
 returns : tie.Need-returns
 returns c =
-    let got = c.before.before.before.before.before.before.before.before.before in
-    let fill = (filled got).fill-columns in
-    let written = c.before.before.write-tables in
+    let got = c.before.before.before.before.before in
+    let fill = (filled got).fill_columns in
+    let written = c.write_tables in
     let text =
-    ap (λ (us : List ℕ). block_text (τ got).ratio (name got) (ruled us fill.last.0 fill.last.1.0 fill.last.1.1.0) fill.last.1.1.1.0) (got.values.ensures (name got))
+    ap (λ (us : List ℕ). block_text (τ got).ratio (name got) (ruled us fill.new.rains fill.new.losses fill.new.excesses) fill.new.sums) (got.values-units.ensures (name got))
     ∙ columns-text (τ got) (block got) (within got) (fill.ensures (name got)) in
-    subst (λ (t : List ℕ). Written (entry got).args.out.now 0 t written.new.0 written.result) text written.ensures
+    subst (λ (t : List ℕ). Written (entry got).args.out.now 0 t written.new.out written.result) text written.ensures
 
-pub write-columns-spec : {M : Type 1} → statement M
-write-columns-spec =
+pub write_columns_spec : {M : Type 1} → statement M
+write_columns_spec =
     tie.close
     (tie.spec
     (λ c κs. search rules) (λ c κs. search rules) array-share-prefix-bytes slice-aggregate-write-tables write-tables-requires (λ c. search rules) (λ c. search rules)
