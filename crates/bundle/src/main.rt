@@ -1,4 +1,6 @@
 // Decks from standard input, each behind its length in 4 bytes, the lowest first; their listings to standard output, each before a line '--'.
+#![tactic(auto)]
+
 ghost use Rattle.std.specs.Prelude.{◌+◌, ◌≤◌, length};
 ghost use Rattle.listing.specs.Sizes.{listing_size};
 

@@ -1,4 +1,6 @@
 // A deck from standard input, its listing to standard output.
+#![tactic(auto)]
+
 use streams::Next;
 
 fn main(rt: HostRuntime) {

@@ -1,5 +1,7 @@
 // Cases from standard input, each the number of a block, the number of a ratio and the deck's length, in 4 bytes each, the lowest first, and the deck (0 names the last
 // block, or the last ratio). The hydrographs go to standard output, each before a line '--'.
+#![tactic(auto)]
+
 ghost use Rattle.std.specs.Prelude.{◌≤◌, length};
 ghost use Rattle.graphing.specs.Sizes.{hydrograph_size};
 

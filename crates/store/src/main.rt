@@ -1,6 +1,8 @@
 // What an office keeps, in bytes as they stand. Standard input is a number of 4 bytes, the lowest first, and what it is asked of up to the input's end.
 // 0: a deck, whose records go to standard output. 1: a result file in the old form, which goes there in the new. 2: one in the new form, which goes there in the old.
 // Where that is refused nothing goes there, and the refusal to standard error: for a deck its number and line, for a file its number, 0 for one too long.
+#![tactic(auto)]
+
 ghost use Rattle.std.specs.Prelude.{◌≡◌, length};
 ghost use Rattle.moving.specs.Answers.{outcome_is};
 ghost use Rattle.store.specs.Kept.{moved_as};

@@ -1,0 +1,12 @@
+-- The deck's buffer and the sheet's keep their lengths from turn to turn, and the count of turns falls.
+use mathlib.Core.Path.{◌≡◌}
+use borrow.Author.Rules.{rules}
+use lib.ListN.{length}
+use Rattle.sheeting.specs.Sizes.{sheet_size}
+use Rattle.sheet.proofs.main.Given as goal
+
+abbrev pub invariant-loop-turns : goal.invariant-loop-turns
+invariant-loop-turns l = (length l.deck ≡ 60_001) × (length l.out ≡ sheet_size)
+
+abbrev pub decreases-loop-turns : goal.decreases-loop-turns
+decreases-loop-turns l = l.turns
