@@ -3,7 +3,7 @@
 --     ratio_outside    the pass met a value outside its limits: refusal 7
 --     ratio_number     it met none: refusal 7 where no ratio is there, or a 0 among them
 --     ratio-listed     the ratios are what the pass kept behind the word
-use Rattle.std.specs.Prelude.{ℕ, zero, suc, ◌+◌, ◌-◌, ◌≤◌, ◌<◌, ◌≡◌, refl, Bool, true, false, ◌&&◌, ◌||◌, List, [], ◌∷◌, ◌++◌, length, take, drop, get_or, replicate}
+use Rattle.std.specs.Prelude.{ℕ, zero, suc, ◌+◌, ◌-◌, ◌≤◌, ◌<◌, ◌≡◌, refl, Bool, true, false, ◌||◌, List, [], ◌∷◌, ◌++◌, length, take, drop, get_or, replicate}
 use Rattle.std.proofs.Common.{sym, ap, ◌∙◌, true≢false, append-nil, arith, add-one, lt-ltb, le-ltb, ltb-false, eq-eqb, ne_eqb, length-append, drop_of_length-le, take-take, drop-cons}
 use Rattle.std.proofs.Math.Bool.{or_assoc, or-false, or-true}
 use Rattle.std.proofs.lemmas.List.{length-replicate, get_or-replicate}

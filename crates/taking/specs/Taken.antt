@@ -8,11 +8,11 @@ use Rattle.std.specs.Prelude.{ℕ, zero, suc, ◌≤◌, ◌<◌, ◌≡◌, ref
 use Rattle.std.proofs.Math.Path.{sym}
 use Rattle.std.proofs.Common.{◌∙◌, ap, subst, arith}
 use Rattle.std.proofs.Math.Seq.{get_or-take}
-use Rattle.meaning.specs.Words.{if◌then◌else◌, met}
+use Rattle.meaning.specs.Words.{met}
 use Rattle.meaning.specs.Fields.{Form}
-use Rattle.meaning.specs.Records.{Row, Once, Listed, Item, row_of, lists_in, filled_up, rules_in, rules_of, time_rules, value_fields, any_faulty, any_outside, most_ordinates}
+use Rattle.meaning.specs.Records.{Row, Item, row_of, filled_up, rules_of, time_rules, value_fields, any_faulty, any_outside, most_ordinates}
 use Rattle.meaning.specs.Blocks.{Time, Block, repeated, too_many}
-use Rattle.meaning.specs.Run.{BeforeTime, BeforeBlocks, InBlock, Refuse, Go, unless, time_refusal, time_of, ratio_refusal, with_ratios, item_values, item_refusal, with_item}
+use Rattle.meaning.specs.Run.{BeforeBlocks, InBlock, Refuse, Go, unless, time_refusal, time_of, with_ratios, item_values, item_refusal, with_item}
 use Rattle.fields.specs.Spans.{form_of}
 use Rattle.records.specs.Rows.{items, field_row, block_row, span_in}
 use Rattle.blocks.specs.declared.Time as coded

@@ -1,11 +1,10 @@
 -- After i turns the list holds the first i values behind what stood before them.
-use Prim.Native.Nat.{◌-◌, ◌≤◌}
 use mathlib.Core.Path.{◌≡◌}
 use native.Mathlib.Numerals.{add-one}
 use native.Mathlib.Omega.{arith}
 use borrow.Author.Rules.{rules}
-use lib.ListN.{length, length-set}
-use lib.Seq.{paste, paste-zero, paste-suc}
+use lib.ListN.{length-set}
+use lib.Seq.{paste-zero, paste-suc}
 use Rattle.blocks.proofs.append.Goals as goal
 
 pub loop-i-init : goal.loop-i-init

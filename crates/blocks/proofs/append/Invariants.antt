@@ -1,11 +1,8 @@
 -- After i turns the list holds the first i values behind what stood before them.
 use Prim.Native.Nat.{◌-◌, ◌≤◌}
 use mathlib.Core.Path.{◌≡◌}
-use native.Mathlib.Numerals.{add-one}
-use native.Mathlib.Omega.{arith}
-use borrow.Author.Rules.{rules}
-use lib.ListN.{length, length-set}
-use lib.Seq.{paste, paste-zero, paste-suc}
+use lib.ListN.{length}
+use lib.Seq.{paste}
 use Rattle.blocks.proofs.append.Given as goal
 
 abbrev pub invariant-loop-i : goal.invariant-loop-i

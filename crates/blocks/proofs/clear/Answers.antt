@@ -1,9 +1,8 @@
 -- After each turn one head more is 0.
-use Prim.Native.Nat.{◌-◌, ◌≤◌}
 use mathlib.Core.Path.{◌≡◌, refl}
 use native.Mathlib.Omega.{arith}
 use borrow.Author.Rules.{rules}
-use lib.ListN.{length, length-set}
+use lib.ListN.{length-set}
 use Rattle.records.specs.Rows.{items}
 use Rattle.blocks.specs.Taking.{region_fits}
 use Rattle.blocks.specs.Clearing.{Clear, clear_next, clear-block, clear_kept}

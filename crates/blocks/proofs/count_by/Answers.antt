@@ -3,7 +3,6 @@ use Prim.Native.Nat.{ℕ, zero, suc, ◌-◌}
 use mathlib.Core.Path.{◌≡◌, refl}
 use native.Mathlib.Omega.{arith}
 use Rattle.blocks.specs.Cards.{count_by}
-use borrow.Author.Rules.{rules}
 use Rattle.blocks.proofs.count_by.Goals as goal
 
 less : (n : ℕ) → (n ≡ 0 → ⊥) → n - 1 ≡ count_by n

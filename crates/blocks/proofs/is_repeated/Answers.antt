@@ -1,7 +1,6 @@
 -- Only a record that stands once is repeated.
 use mathlib.Core.Path.{◌∙◌, sym}
 use Rattle.blocks.specs.Values.{once-repeated, list_repeated}
-use borrow.Author.Rules.{rules}
 use Rattle.blocks.proofs.is_repeated.Goals as goal
 
 pub returns-then-way_of-eq0 : goal.returns-then-way_of-eq0

@@ -8,7 +8,6 @@ use borrow.Author.Tests.{lt-ltb, le-ltb}
 use Rattle.sequences.specs.Choices.{taken, passed}
 use Rattle.meaning.specs.Words.{◌<?◌}
 use Rattle.blocks.specs.Cards.{head_in, count_by, count_low}
-use borrow.Author.Rules.{rules}
 use Rattle.blocks.proofs.take_in.Goals as goal
 
 pub overflow_add-count : goal.overflow_add-count

@@ -1,7 +1,6 @@
 -- A value that is there, or 0.
 use mathlib.Core.Path.{sym}
 use lib.ListN.{get_or-eq_default}
-use borrow.Author.Rules.{rules}
 use Rattle.blocks.proofs.value_at.Goals as goal
 
 pub returns-then-k-vs : goal.returns-then-k-vs

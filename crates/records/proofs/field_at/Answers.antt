@@ -1,5 +1,4 @@
 -- The rule of the table, and the field by it; every rule of the table allows few places.
-use borrow.Author.Rules.{rules}
 use Rattle.records.specs.OwnRules.{few_places}
 use Rattle.records.proofs.field_at.Goals as goal
 

@@ -1,11 +1,7 @@
 -- The rows from a place on have the key where all of them do.
-use Prim.Native.Nat.{◌-◌, ◌≤◌}
-use mathlib.Core.Path.{◌≡◌, refl, sym, ◌∙◌}
+use mathlib.Core.Path.{refl, sym, ◌∙◌}
 use borrow.Author.Rules.{rules}
-use lib.ListN.{drop}
-use Rattle.meaning.specs.Records.{table}
-use Rattle.records.specs.Rows.{items}
-use Rattle.records.specs.Keys.{place_from, place_of, place_found, place-next, place_none}
+use Rattle.records.specs.Keys.{place_of, place_found, place-next, place_none}
 use Rattle.records.proofs.place_of.Goals as goal
 
 pub loop-i-init : goal.loop-i-init

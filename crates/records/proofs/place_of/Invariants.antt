@@ -1,11 +1,10 @@
 -- The rows from a place on have the key where all of them do.
 use Prim.Native.Nat.{◌-◌, ◌≤◌}
-use mathlib.Core.Path.{◌≡◌, refl, sym, ◌∙◌}
-use borrow.Author.Rules.{rules}
+use mathlib.Core.Path.{◌≡◌}
 use lib.ListN.{drop}
 use Rattle.meaning.specs.Records.{table}
 use Rattle.records.specs.Rows.{items}
-use Rattle.records.specs.Keys.{place_from, place_of, place_found, place-next, place_none}
+use Rattle.records.specs.Keys.{place_from}
 use Rattle.records.proofs.place_of.Given as goal
 
 abbrev pub invariant-loop-i : goal.invariant-loop-i

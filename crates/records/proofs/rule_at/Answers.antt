@@ -1,7 +1,6 @@
 -- A line has ten fields at most.
 use mathlib.Core.Path.{◌∙◌}
 use Rattle.records.specs.OwnRules.{past_ten, within_ten}
-use borrow.Author.Rules.{rules}
 use Rattle.records.proofs.rule_at.Goals as goal
 
 pub returns-then-k-ge10 : goal.returns-then-k-ge10

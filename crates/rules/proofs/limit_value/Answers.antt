@@ -1,7 +1,6 @@
 -- By cases on the value; within its limits by the two tests.
 use mathlib.Core.Path.{refl}
 use borrow.Author.Tests.{lt-ltb, le-ltb}
-use borrow.Author.Rules.{rules}
 use Rattle.rules.proofs.limit_value.Goals as goal
 
 pub returns-then-u-low : goal.returns-then-u-low

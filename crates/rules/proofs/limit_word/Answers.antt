@@ -1,5 +1,4 @@
 -- What a number of those limits would be told of the word: malformed or outside, it is another word; else it is kept.
-use borrow.Author.Rules.{rules}
 use Rattle.amounts.specs.Values.{value_is}
 use Rattle.rules.specs.Rules.{faulty_other, outside_other, inside_kept}
 use Rattle.rules.proofs.limit_word.Goals as goal

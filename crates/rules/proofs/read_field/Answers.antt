@@ -6,7 +6,6 @@ use mathlib.Core.List.{List, [], ◌∷◌}
 use native.Mathlib.Omega.{arith}
 use lib.ListN.{length}
 use Rattle.meaning.specs.Words.{empty}
-use borrow.Author.Rules.{rules}
 use Rattle.rules.proofs.read_field.Goals as goal
 
 filled : (f : List ℕ) → 0 < length f → not (empty f) ≡ true

@@ -1,5 +1,4 @@
 -- The copy leaves the ratios in front, and the count is theirs.
-use borrow.Author.Rules.{rules}
 use lib.Seq.{take-append_seam}
 use Rattle.taking.proofs.copy_ratios.Goals as goal
 

@@ -1,9 +1,7 @@
 -- The ratios from a place on have a 0 where all of them do.
-use Prim.Native.Nat.{◌-◌, ◌≤◌}
-use mathlib.Core.Path.{◌≡◌, refl, sym, ◌∙◌}
-use lib.ListN.{length, drop}
+use mathlib.Core.Path.{refl, sym, ◌∙◌}
 use borrow.Author.Rules.{rules}
-use Rattle.taking.specs.Ratios.{any_zero, zero-here, zero-later, zero_nowhere}
+use Rattle.taking.specs.Ratios.{zero-here, zero-later, zero_nowhere}
 use Rattle.taking.proofs.has_zero.Goals as goal
 
 pub loop-i-init : goal.loop-i-init

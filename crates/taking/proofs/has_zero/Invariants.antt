@@ -1,9 +1,8 @@
 -- The ratios from a place on have a 0 where all of them do.
 use Prim.Native.Nat.{◌-◌, ◌≤◌}
-use mathlib.Core.Path.{◌≡◌, refl, sym, ◌∙◌}
+use mathlib.Core.Path.{◌≡◌}
 use lib.ListN.{length, drop}
-use borrow.Author.Rules.{rules}
-use Rattle.taking.specs.Ratios.{any_zero, zero-here, zero-later, zero_nowhere}
+use Rattle.taking.specs.Ratios.{any_zero}
 use Rattle.taking.proofs.has_zero.Given as goal
 
 abbrev pub invariant-loop-i : goal.invariant-loop-i

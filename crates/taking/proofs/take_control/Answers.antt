@@ -1,6 +1,5 @@
 -- Each way of the line is one law: outside its limits, the time control, the ratios.
 use mathlib.Core.List.{[]}
-use borrow.Author.Rules.{rules}
 use Rattle.scanning.specs.Scans.{scanned_of}
 use Rattle.taking.specs.Taken.{control_outside, time_few, time-line, ratio-line}
 use Rattle.taking.proofs.take_control.Goals as goal

@@ -26,7 +26,7 @@ take-values-requires : tie.Need-take_values-requires
 take-values-requires c κs =
     let s = c.before.before.before.before.before in
     let read = s.requires.1.read in
-    ((s.requires.0.0, read.few, omega (arith, read.ten)), ((due s).1, s.requires.0.1.counted (place s)))
+    ((s.requires.0.0, omega (arith, read.few), omega (arith, read.ten)), ((due s).1, s.requires.0.1.counted (place s)))
 
 returns-2 : tie.Need-returns
 returns-2 c =

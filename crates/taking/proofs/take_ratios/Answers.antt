@@ -4,7 +4,6 @@ use mathlib.Core.Path.{sym, ap, ◌∙◌}
 use mathlib.Core.Bool.{Bool}
 use mathlib.Core.List.{List}
 use native.Mathlib.Omega.{arith}
-use borrow.Author.Rules.{rules}
 use Rattle.meaning.specs.Words.{met}
 use Rattle.blocks.specs.Meant.{time_is}
 use Rattle.taking.specs.Ratios.{none_there, some_there}

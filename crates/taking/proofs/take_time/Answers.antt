@@ -2,7 +2,6 @@
 use Prim.Native.Nat.{ℕ}
 use mathlib.Core.Path.{refl, ap}
 use mathlib.Core.List.{List}
-use borrow.Author.Rules.{rules}
 use Rattle.taking.specs.Taken.{time_taken, with_listed, timed_with}
 use Rattle.taking.proofs.take_time.Goals as goal
 

@@ -1,12 +1,12 @@
 -- The loop keeps the word that the bytes left come to; i bytes are below 256 ^ i, and there are eight at most.
 use borrow.Author.Rules.{rules}
-use Prim.Native.Nat.{ℕ, suc, ◌+◌, ◌-◌, ◌^◌, ◌≤◌, ◌<◌}
+use Prim.Native.Nat.{ℕ, suc, ◌+◌, ◌^◌}
 use mathlib.Core.Path.{◌≡◌, refl, ap, ◌∙◌}
 use native.Mathlib.Numerals.{add-one}
 use native.Mathlib.Omega.{arith}
-use lib.ListN.{length, drop, get_or}
+use lib.ListN.{get_or}
 use Rattle.slices.specs.Bytes.{few_bytes, byte_more}
-use Rattle.rules.specs.Words.{spelled, spelled_more, spelled-blank, spelled-end, too_long, fits}
+use Rattle.rules.specs.Words.{spelled_more, spelled-blank, spelled-end, too_long, fits}
 use Rattle.rules.proofs.words.read_word.Goals as goal
 
 pub returns-then-most-f : goal.returns-then-most-f
