@@ -1,6 +1,6 @@
 -- What is asked of the time control and of the cards that were read: they are within the limits of the table of records.
 use Rattle.std.specs.Prelude.{ℕ, List, []}
-use Rattle.meaning.specs.Records.{Item, RM, table, row_of}
+use Rattle.meaning.specs.Records.{Item, RM, row_of}
 use Rattle.meaning.specs.Blocks.{Time, Block, card_of, reach_steps, reach_k, reach_x}
 use Rattle.limits.specs.Within.{TimeWithin, CardWithin}
 use Rattle.blocks.specs.Cards.{block_of, Readable}

@@ -1,5 +1,4 @@
 -- One answer for each form.
-use borrow.Author.Rules.{rules}
 use mathlib.Core.Path.{◌≡◌, ◌∙◌}
 use Rattle.fields.specs.Spans.{blanks_end}
 use Rattle.fields.specs.Forms.{first_in_free, first_in_fixed}

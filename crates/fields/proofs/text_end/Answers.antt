@@ -1,10 +1,8 @@
 -- The part up to `e` has the same text as the whole.
 use borrow.Author.Rules.{rules}
-use Prim.Native.Nat.{◌-◌, ◌≤◌}
-use mathlib.Core.Path.{◌≡◌, sym, ◌∙◌, ap}
-use lib.ListN.{length, drop}
+use mathlib.Core.Path.{sym, ◌∙◌, ap}
 use Rattle.meaning.specs.Fields.{trim_end, is_blank}
-use Rattle.sequences.specs.Parts.{part, part_to_end}
+use Rattle.sequences.specs.Parts.{part_to_end}
 use Rattle.fields.specs.Trimming.{text_none, text-blank, text_other, text_ends}
 use Rattle.fields.proofs.text_end.Goals as goal
 

@@ -1,11 +1,9 @@
 -- The part up to `e` has the same text as the whole.
-use borrow.Author.Rules.{rules}
 use Prim.Native.Nat.{◌-◌, ◌≤◌}
-use mathlib.Core.Path.{◌≡◌, sym, ◌∙◌, ap}
+use mathlib.Core.Path.{◌≡◌}
 use lib.ListN.{length, drop}
 use Rattle.meaning.specs.Fields.{trim_end, is_blank}
-use Rattle.sequences.specs.Parts.{part, part_to_end}
-use Rattle.fields.specs.Trimming.{text_none, text-blank, text_other, text_ends}
+use Rattle.sequences.specs.Parts.{part}
 use Rattle.fields.proofs.text_end.Given as goal
 
 abbrev pub invariant-loop-e : goal.invariant-loop-e

@@ -1,11 +1,8 @@
 -- The loop's end stays the end of the same run: what is left of the run from `i` on is what was left of it from `at` on.
 use Prim.Native.Nat.{◌+◌, ◌-◌}
 use mathlib.Core.Path.{◌≡◌}
-use native.Mathlib.Omega.{arith}
 use lib.ListN.{length, drop}
-use borrow.Author.Rules.{rules}
-use Rattle.sequences.specs.Choices.{in_range, below_range, above_range}
-use Rattle.sequences.specs.Runs.{run, run_more, run-stop, run_end}
+use Rattle.sequences.specs.Runs.{run}
 use Rattle.lines.specs.Line.{is_plain}
 use Rattle.lines.proofs.plain_end.Given as goal
 

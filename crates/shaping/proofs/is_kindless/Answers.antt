@@ -1,7 +1,6 @@
 -- `shaping::is_kindless` meets its contract: the kind's number is tested.
 use Prim.Native.Nat.{ℕ}
 use mathlib.Core.Path.{ap}
-use borrow.Author.Rules.{rules}
 use Rattle.meaning.specs.Words.{◌=?◌}
 use Rattle.shaping.proofs.is_kindless.Goals as goal
 

@@ -3,7 +3,6 @@ use Prim.Native.Nat.{ℕ, ◌<◌}
 use mathlib.Core.Path.{◌≡◌, sym, ◌∙◌, ap}
 use mathlib.Core.List.{List}
 use native.Mathlib.Omega.{arith}
-use borrow.Author.Rules.{rules}
 use Rattle.meaning.specs.Words.{◌=?◌}
 use Rattle.meaning.specs.Water.{sum_of, rain_of}
 use Rattle.meaning.specs.Blocks.{storm_total}

@@ -1,6 +1,5 @@
 -- `shaping::reach_of` meets its contract: each value is the card's own.
 use native.Mathlib.Omega.{arith}
-use borrow.Author.Rules.{rules}
 use Rattle.shaping.proofs.reach_of.Goals as goal
 
 pub returns : goal.returns

@@ -1,7 +1,7 @@
 -- `shaping::refusal_by` meets its contract: each answer is the first that its tests let through.
 use Prim.Native.Nat.{◌-◌, ◌≤◌, ◌<◌}
 use native.Mathlib.Omega.{arith}
-use borrow.Author.Tests.{ltb-true, ltb-false, lt-ltb, le-ltb, le-leb, lt-leb}
+use borrow.Author.Tests.{lt-ltb, le-ltb, le-leb, lt-leb}
 use Rattle.shaping.proofs.refusal_by.Statement.{statement}
 use Rattle.shaping.proofs.refusal_by.Tie as tie
 

@@ -1,5 +1,4 @@
 -- `shaping::refuse_broken` meets its contract: arm by arm.
-use borrow.Author.Rules.{rules}
 use Rattle.shaping.proofs.refuse_broken.Goals as goal
 
 pub returns-in-NoKind : goal.returns-in-NoKind

@@ -1,7 +1,6 @@
 -- `shaping::refuse_pond` meets its contract: the values of its table are within their limits.
 use mathlib.Core.Path.{◌∙◌}
 use mathlib.Core.List.{[]}
-use borrow.Author.Rules.{rules}
 use Rattle.meaning.specs.Records.{SV, SQ}
 use Rattle.shaping.proofs.refuse_pond.Goals as goal
 

@@ -1,6 +1,5 @@
 -- `shaping::taken_by` meets its contract: arm by arm.
 use native.Mathlib.Omega.{arith}
-use borrow.Author.Rules.{rules}
 use Rattle.shaping.proofs.taken_by.Goals as goal
 
 pub returns-in-NoKind : goal.returns-in-NoKind

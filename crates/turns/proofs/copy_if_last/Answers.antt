@@ -1,7 +1,6 @@
 -- By whether a block was named.
 use mathlib.Core.Path.{refl}
 use borrow.Author.Tests.{eq-eqb, ne_eqb}
-use borrow.Author.Rules.{rules}
 use Rattle.sequences.specs.Choices.{taken, passed}
 use Rattle.turns.proofs.copy_if_last.Goals as goal
 

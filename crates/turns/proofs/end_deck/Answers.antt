@@ -1,5 +1,4 @@
 -- Each way out is one of the contract: the refusal where the block closed, other than one held, or the deck worked.
-use borrow.Author.Rules.{rules}
 use Rattle.turns.proofs.end_deck.Goals as goal
 
 pub returns-then-refusal-ne0 : goal.returns-then-refusal-ne0

@@ -1,6 +1,5 @@
 -- Each way out is one of the contract: the refusal where the block closed, a 201st block, or the next block.
 use native.Mathlib.Omega.{arith}
-use borrow.Author.Rules.{rules}
 use Rattle.turns.proofs.open_next.Goals as goal
 
 pub returns-then-refusal-ne0 : goal.returns-then-refusal-ne0

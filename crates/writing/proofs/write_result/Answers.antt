@@ -2,7 +2,6 @@
 use Prim.Native.Nat.{ℕ}
 use mathlib.Core.Path.{◌≡◌, ap, ◌∙◌}
 use mathlib.Core.List.{List}
-use borrow.Author.Rules.{rules}
 use Rattle.blocks.specs.Meant.{name_is}
 use Rattle.writing.specs.WrittenResult.{record_told, record_put, told_as}
 use Rattle.writing.proofs.write_result.Goals as goal

@@ -1,5 +1,4 @@
 -- Each way out is one way through what separates two values.
-use borrow.Author.Rules.{rules}
 use Prim.Native.Nat.{◌+◌}
 use mathlib.Core.Path.{◌≡◌, ◌∙◌, ap}
 use Rattle.fields.specs.Spans.{blanks_end, gap_from}

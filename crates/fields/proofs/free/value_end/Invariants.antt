@@ -1,12 +1,8 @@
 -- The loop's end stays the end of the same value.
-use borrow.Author.Rules.{rules}
 use Prim.Native.Nat.{◌-◌}
 use mathlib.Core.Path.{◌≡◌}
-use native.Mathlib.Omega.{arith}
 use lib.ListN.{length}
-use Rattle.sequences.specs.Runs.{run_more, run-stop, run_end}
-use Rattle.fields.specs.Spans.{in_value, value_end}
-use Rattle.fields.specs.Free.{value_goes_on, blank_ends, comma_ends}
+use Rattle.fields.specs.Spans.{value_end}
 use Rattle.fields.proofs.free.value_end.Given as goal
 
 abbrev pub invariant-loop-i : goal.invariant-loop-i

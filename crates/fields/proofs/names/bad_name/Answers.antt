@@ -1,5 +1,4 @@
 -- Each way out is one way through the definition.
-use borrow.Author.Rules.{rules}
 use mathlib.Core.Path.{◌∙◌}
 use Rattle.fields.specs.NameLaws.{empty_bad, long_bad, blank_bad}
 use Rattle.fields.proofs.names.bad_name.Goals as goal

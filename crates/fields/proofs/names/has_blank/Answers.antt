@@ -1,9 +1,6 @@
 -- What is left of the name from `i` on decides.
 use borrow.Author.Rules.{rules}
-use Prim.Native.Nat.{◌-◌}
-use mathlib.Core.Path.{◌≡◌, refl, sym, ◌∙◌}
-use lib.ListN.{length, drop}
-use Rattle.meaning.specs.Records.{any_blank}
+use mathlib.Core.Path.{refl, sym, ◌∙◌}
 use Rattle.fields.specs.NameLaws.{blank-here, blank-later, blank_nowhere}
 use Rattle.fields.proofs.names.has_blank.Goals as goal
 

@@ -1,10 +1,8 @@
 -- What is left of the name from `i` on decides.
-use borrow.Author.Rules.{rules}
 use Prim.Native.Nat.{◌-◌}
-use mathlib.Core.Path.{◌≡◌, refl, sym, ◌∙◌}
+use mathlib.Core.Path.{◌≡◌}
 use lib.ListN.{length, drop}
 use Rattle.meaning.specs.Records.{any_blank}
-use Rattle.fields.specs.NameLaws.{blank-here, blank-later, blank_nowhere}
 use Rattle.fields.proofs.names.has_blank.Given as goal
 
 abbrev pub invariant-loop-i : goal.invariant-loop-i
