@@ -5,7 +5,7 @@ use Rattle.std.proofs.Common.{sym, ◌∙◌, ap, append_assoc, arith}
 use Rattle.std.proofs.Math.Bool.{true, false}
 use borrow.Author.Tests.{leb-true}
 use Rattle.std.proofs.Math.ListN.{length, length-append}
-use Rattle.meaning.specs.Words.{◌=?◌, ◌≤?◌, if◌then◌else◌}
+use Rattle.meaning.specs.Words.{◌=?◌, ◌≤?◌, when◌then◌else◌}
 use Rattle.meaning.specs.Numbers.{Number, NoNumber, Decimal, is_digit, unsigned, before_point, behind_point, all_digits, read_on, fraction_left, decimal_of, number_of}
 use Rattle.sequences.specs.Choices.{both_hold}
 use Rattle.sequences.specs.Digits.{fraction_split}
@@ -41,11 +41,11 @@ module _ (minus : Bool) (s : List ℕ) where
   left_short = omega (arith, ap length digits-left, length-append left zeros)
 
   decimal_small : Small (decimal_of minus s)
-  unfolding decimal_of if◌then◌else◌
+  unfolding decimal_of when◌then◌else◌
   decimal_small = go (all_digits digits && (1 ≤? length digits) && (length digits ≤? 9)) refl
     where
       go : (t : Bool) → (all_digits digits && (1 ≤? length digits) && (length digits ≤? 9)) ≡ t
-          → Small (if t then Decimal minus (read_on 0 left) (length (fraction_left s)) else NoNumber)
+          → Small (when t then Decimal minus (read_on 0 left) (length (fraction_left s)) else NoNumber)
       go true h =
           let few = both_hold _ _ h in
           let some = both_hold _ _ few.0 in

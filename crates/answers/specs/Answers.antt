@@ -6,7 +6,7 @@
 --     settled_as                       what becomes of a deck that is sound
 --     zeros-refuse                    zeros in all of it are a refusal; zeros_accept: zeros in the work words alone an acceptance
 use Rattle.std.specs.Prelude.{ℕ, ◌≡◌, Bool, ◌||◌, List, length, replicate}
-use Rattle.meaning.specs.Words.{◌<?◌, if◌then◌else◌, met, first}
+use Rattle.meaning.specs.Words.{◌<?◌, when◌then◌else◌, met, first}
 use Rattle.meaning.specs.Run as run
 use Rattle.meaning.specs.Run.{Outcome, Lent, record_bytes, refused, work_size, deck_size}
 use Rattle.answers.specs.declared.Answer.{Answer}
@@ -40,7 +40,7 @@ size_refusal work deck = first (met (work <? work_size) 1) (met (deck_size <? de
 -- a sound deck with so many ordinates, blocks and ratios: 17, or the results as they stand, with zeros in the words that the run worked in
 abbrev pub settled_as : (nq blocks ratios named ratio : ℕ) (work ordinates records : List ℕ) → Outcome
 settled_as nq blocks ratios named ratio work ordinates records =
-    if lacking nq blocks ratios named ratio (length ordinates) (length records) then refused 17 0 (lent_as work ordinates records) else
+    when lacking nq blocks ratios named ratio (length ordinates) (length records) then refused 17 0 (lent_as work ordinates records) else
     outcome_is (answer.Accepted nq blocks ratios) (replicate (length work) 0) ordinates records
 
 -- zeros in each of the three are a refusal

@@ -11,7 +11,7 @@ use Rattle.std.proofs.Math.Seq.{paste}
 use Rattle.std.proofs.lemmas.List.Edits.{take-paste, length-paste}
 use Rattle.std.proofs.lemmas.List.{set-get_or}
 use Rattle.sequences.specs.Parts.{part, put, length_part, length-put}
-use Rattle.meaning.specs.Words.{◌=?◌, ◌<?◌, if◌then◌else◌, met}
+use Rattle.meaning.specs.Words.{◌=?◌, ◌<?◌, when◌then◌else◌, met}
 use Rattle.meaning.specs.Records.{UpTo, UpToNQ, Row, Once, Listed, table, Item, row_of, lists_in}
 use Rattle.meaning.specs.Blocks.{Card, Absent, Given, is_given, values_of, Block, Time, card_of, over_by, too_many, repeated}
 use Rattle.records.specs.Rows.{items, most_fits, most_in, room_of, span_in, start, start_fits, words_of}
@@ -161,12 +161,12 @@ module _ (item : Item) (nq count : ℕ) (vs w : List ℕ) (inside : item < items
       ∙ over_by_lem (row_of item) τ (count_by (head_in r)) count (λ e. none_there (row_of item) r (rw (card_at item name w) at (once name)) e)
       ∙ ap (over_by (row_of item) τ) (sym (counted name))
 
-  pub takes : (refusal : ℕ) (y : List ℕ) → refusal ≡ met over 8 → y ≡ (if over then r else grown r vs n)
+  pub takes : (refusal : ℕ) (y : List ℕ) → refusal ≡ met over 8 → y ≡ (when over then r else grown r vs n)
       → Takes item nq (take n vs) w refusal (put (start item) (suc (room_of item)) w y)
-  unfolding if◌then◌else◌
+  unfolding when◌then◌else◌
   takes refusal y a e = go over refl a e
     where
-      go : (t : Bool) → over ≡ t → refusal ≡ met t 8 → y ≡ (if t then r else grown r vs n) → Takes item nq (take n vs) w refusal (put (start item) (suc (room_of item)) w y)
+      go : (t : Bool) → over ≡ t → refusal ≡ met t 8 → y ≡ (when t then r else grown r vs n) → Takes item nq (take n vs) w refusal (put (start item) (suc (room_of item)) w y)
       go true o a e =
           let l = region_long item w inside kept.long in
           record {

@@ -4,7 +4,7 @@
 
 ghost use Rattle.std.specs.Prelude.{◌≡◌, false, List, [], ℕ, suc, ◌+◌, ◌≤◌, ◌<◌, length, take, get_or, set};
 ghost use Rattle.std.proofs.Math.Seq.{paste};
-ghost use Rattle.meaning.specs.Words.{◌<?◌, met, if◌then◌else◌};
+ghost use Rattle.meaning.specs.Words.{◌<?◌, met, when◌then◌else◌};
 ghost use Rattle.meaning.specs.Records.{row_of, table, most_ordinates};
 ghost use Rattle.meaning.specs.Blocks.{is_given, values_of, card_of, repeated, opened};
 ghost use Rattle.blocks.specs.Meant.{ratios_is, time_under};
@@ -95,7 +95,7 @@ fn take_in(region: &mut [u64], values: &[u64], n: usize, most: usize) -> u64
     requires n_bound { (n ≤ 10) × (n ≤ length values.now) }
     requires region_bound { (head_in region.old ≤ suc most) × (suc most ≤ length region.old) }
     ensures value { result ≡ met (most <? (count_by (head_in region.old) + n)) 8 }
-    ensures region_after { region.new ≡ (if most <? (count_by (head_in region.old) + n) then region.old else set (paste region.old (suc (count_by (head_in region.old))) values.now n) 0 (suc (count_by (head_in region.old) + n))) }
+    ensures region_after { region.new ≡ (when most <? (count_by (head_in region.old) + n) then region.old else set (paste region.old (suc (count_by (head_in region.old))) values.now n) 0 (suc (count_by (head_in region.old) + n))) }
 {
     let count = count_by(region[0]);
     if most < count + n {

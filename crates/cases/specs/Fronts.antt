@@ -4,7 +4,7 @@
 --     number_short, counts_short, refusal_short   a number has at most 20 digits
 use Rattle.std.specs.Prelude.{◌≡◌, List, [], ◌∷◌, ◌++◌, ℕ, zero, suc, ◌+◌, ◌^◌, ◌≤◌, ◌<◌, length, get_or, take}
 use Rattle.std.proofs.Common.{sym, ◌∙◌, append-nil, append_assoc, add-zero, add-one, arith, length-append, eq-eqb, ne_eqb}
-use Rattle.meaning.specs.Words.{◌=?◌, if◌then◌else◌}
+use Rattle.meaning.specs.Words.{◌=?◌, when◌then◌else◌}
 use Rattle.meaning.specs.Run.{Accepted, Refused}
 use Rattle.meaning.specs.Listing.{refused_line}
 use Rattle.text.specs.Digits.{whole_short}
@@ -27,17 +27,17 @@ pub number_short : (i x : ℕ) → x < 10 ^ 20 → length (number_at i x) ≤ or
 number_short zero x h = omega (arith, whole_short 19 x h)
 number_short (suc i) x h = omega (arith, whole_short 19 x h)
 
-left-next : (i : ℕ) (xs : List ℕ) → i < length xs → left (take (suc i) xs) ≡ left (take i xs) + (if get_or xs i 0 =? 0 then 0 else 1)
+left-next : (i : ℕ) (xs : List ℕ) → i < length xs → left (take (suc i) xs) ≡ left (take i xs) + (when get_or xs i 0 =? 0 then 0 else 1)
 left-next i [] h = absurd (omega arith)
 left-next zero (x ∷ xs) h = omega arith
 left-next (suc i) (x ∷ xs) h = omega (arith, left-next i xs (omega arith))
 
 pub left-zero : (i : ℕ) (xs : List ℕ) → i < length xs → get_or xs i 0 ≡ 0 → left (take (i + 1) xs) ≡ left (take i xs)
-unfolding if◌then◌else◌
+unfolding when◌then◌else◌
 left-zero i xs h e = rw (add-one i) (left-next i xs h ∙ rw (eq-eqb (get_or xs i 0) 0 e) (add-zero (left (take i xs))))
 
 pub left_other : (i : ℕ) (xs : List ℕ) → i < length xs → 0 < get_or xs i 0 → left (take (i + 1) xs) ≡ left (take i xs) + 1
-unfolding if◌then◌else◌
+unfolding when◌then◌else◌
 left_other i xs h some = rw (add-one i) (left-next i xs h ∙ rw (ne_eqb (get_or xs i 0) 0 (λ e. absurd (omega arith))))
 
 pub counts_short : (nq blocks ratios : ℕ) → nq < 10 ^ 20 → blocks < 10 ^ 20 → ratios < 10 ^ 20 → length (answer_line (Accepted nq blocks ratios)) ≤ answer_size

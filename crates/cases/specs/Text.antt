@@ -2,7 +2,7 @@
 -- not zero, and one that is '--'.
 --     an_outcome, a_refusal     two of them as they are printed
 use Rattle.std.specs.Prelude.{ℕ, zero, suc, ◌+◌, ◌≡◌, refl, List, [], ◌∷◌, ◌++◌}
-use Rattle.meaning.specs.Words.{◌=?◌, if◌then◌else◌, bytes}
+use Rattle.meaning.specs.Words.{◌=?◌, when◌then◌else◌, bytes}
 use Rattle.meaning.specs.Lines.{blank}
 use Rattle.meaning.specs.Run.{Answer, Accepted, Refused, Outcome}
 use Rattle.meaning.specs.Listing.{whole, refused_line}
@@ -25,7 +25,7 @@ numbers_from i (x ∷ xs) = number_at i x ++ numbers_from (suc i) xs
 -- How many words are not zero.
 abbrev pub left : List ℕ → ℕ
 left [] = 0
-left (x ∷ xs) = (if x =? 0 then 0 else 1) + left xs
+left (x ∷ xs) = (when x =? 0 then 0 else 1) + left xs
 
 -- Their count, and the line behind a case.
 unfoldable pub left_lines : List ℕ → List ℕ
@@ -40,10 +40,10 @@ case_text o =
 
 an_outcome : case_text (record { answer = Accepted 4 2 3; work = 0 ∷ 7 ∷ 0 ∷ []; ordinates = 0 ∷ 120 ∷ 48 ∷ []; records = 0 ∷ 85 ∷ 250 ∷ [] })
     ≡ line (bytes "4 2 3") ++ line (bytes "0 120 48") ++ line (bytes "0055fa") ++ line (bytes "1") ++ line (bytes "--")
-unfolding case_text left_lines answer_line whole if◌then◌else◌
+unfolding case_text left_lines answer_line whole when◌then◌else◌
 an_outcome = refl
 
 a_refusal : case_text (record { answer = Refused 17 0; work = []; ordinates = []; records = [] })
     ≡ line (bytes "REFUSED 17 0") ++ line [] ++ line [] ++ line (bytes "0") ++ line (bytes "--")
-unfolding case_text left_lines answer_line refused_line whole if◌then◌else◌
+unfolding case_text left_lines answer_line refused_line whole when◌then◌else◌
 a_refusal = refl

@@ -4,7 +4,7 @@
 --     depth_figure, flow_figure   a depth and a flow are such figures
 --     share_by       the share of an interval by its excess
 use Rattle.std.specs.Prelude.{ℕ, ◌-◌, ◌*◌, ◌≡◌, refl, ◌&&◌, List, [], ◌++◌, length, get_or}
-use Rattle.meaning.specs.Words.{◌≤?◌, ◌<?◌, if◌then◌else◌, bytes}
+use Rattle.meaning.specs.Words.{◌≤?◌, ◌<?◌, when◌then◌else◌, bytes}
 use Rattle.meaning.specs.Listing.{whole}
 use Rattle.meaning.specs.Sheet as sheet
 use Rattle.meaning.specs.Sheet.{six_places, inch_millionths, cfs_millionths, depth_text, flow_text}
@@ -35,4 +35,4 @@ depths_text m rain loss excess = cell (depth_text m rain) ++ cell (depth_text m 
 
 -- Of interval k at ordinate i, both from 0.
 unfoldable pub share_by : sheet.Measure → (units : List ℕ) → (excess k i : ℕ) → List ℕ
-share_by m units excess k i = if (k ≤? i) && ((i - k) <? length units) then flow_text m (get_or units (i - k) 0 * excess) else []
+share_by m units excess k i = when (k ≤? i) && ((i - k) <? length units) then flow_text m (get_or units (i - k) 0 * excess) else []

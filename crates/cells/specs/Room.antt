@@ -3,7 +3,7 @@ use Rattle.std.specs.Prelude.{ℕ, ◌+◌, ◌-◌, ◌*◌, ◌/◌, ◌≤◌
 use Rattle.std.proofs.Common.{arith, length-append}
 use Rattle.text.specs.Digits.{whole_within, length-six_places}
 use Rattle.text.specs.Written.{Written}
-use Rattle.meaning.specs.Words.{◌≤?◌, ◌<?◌, if◌then◌else◌}
+use Rattle.meaning.specs.Words.{◌≤?◌, ◌<?◌, when◌then◌else◌}
 use Rattle.meaning.specs.Listing.{whole}
 use Rattle.meaning.specs.Sheet.{Measure, Units, Customary, depth_text, flow_text, inch_millionths, cfs_millionths}
 use Rattle.cells.specs.Sizes.{cell_size, depths_size}
@@ -33,9 +33,9 @@ pub behind_depths : (m : Measure) (rain loss excess : ℕ) {at behind : ℕ} {ou
 behind_depths m rain loss excess w = omega (arith, w.place, depths_short m rain loss excess)
 
 pub share_short : (m : Measure) (units : List ℕ) (excess k i : ℕ) → length (cell (share_by m units excess k i)) ≤ cell_size
-unfolding share_by if◌then◌else◌
+unfolding share_by when◌then◌else◌
 share_short m units excess k i = by_test ((k ≤? i) && ((i - k) <? length units)) (flow_text m (get_or units (i - k) 0 * excess)) (flow_short m (get_or units (i - k) 0 * excess))
   where
-    by_test : (t : Bool) (text : List ℕ) → length (cell text) ≤ cell_size → length (cell (if t then text else [])) ≤ cell_size
+    by_test : (t : Bool) (text : List ℕ) → length (cell text) ≤ cell_size → length (cell (when t then text else [])) ≤ cell_size
     by_test true text h = h
     by_test false text h = omega arith

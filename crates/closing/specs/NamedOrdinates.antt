@@ -9,7 +9,7 @@ use borrow.Author.Tests.{ne_eqb, eqb-true, eqb-false, le-leb, lt-leb}
 use Rattle.std.proofs.Math.ListN.{length, length-append}
 use Rattle.sequences.specs.Choices.{taken, passed, below_or_not}
 use Rattle.sequences.specs.Zeros.{drop-replicate}
-use Rattle.meaning.specs.Words.{◌=?◌, ◌≤?◌, if◌then◌else◌}
+use Rattle.meaning.specs.Words.{◌=?◌, ◌≤?◌, when◌then◌else◌}
 use Rattle.meaning.specs.Results.{Result}
 use Rattle.meaning.specs.Run.{flows_of, named_flow}
 use Rattle.writing.specs.WrittenResult.{copied_first, copied_named}
@@ -26,43 +26,43 @@ flow_last (x ∷ rs) r = flow_last rs r
 
 module _ (rs : List Result) (r : Result) where
   pub named_more : (named : ℕ) → 1 ≤ named → named ≤ length rs → named_flow named (rs ++ (r ∷ [])) ≡ named_flow named rs
-  unfolding named_flow if◌then◌else◌
+  unfolding named_flow when◌then◌else◌
   named_more named some few =
       let given : named ≡ 0 → ⊥ = λ e. omega arith in
       rw (ne_eqb named 0 given) (flow_more rs r (named - 1) (omega arith))
 
   pub named-next : named_flow (length rs + 1) (rs ++ (r ∷ [])) ≡ r.held.flow
-  unfolding named_flow if◌then◌else◌
+  unfolding named_flow when◌then◌else◌
   named-next =
       let given : length rs + 1 ≡ 0 → ⊥ = λ e. omega arith in
       let i : length rs + 1 - 1 ≡ length rs = omega arith in
       rw (ne_eqb (length rs + 1) 0 given, i) (flow_last rs r)
 
   pub named_last : named_flow 0 (rs ++ (r ∷ [])) ≡ r.held.flow
-  unfolding named_flow if◌then◌else◌
+  unfolding named_flow when◌then◌else◌
   named_last =
       let i : length (rs ++ (r ∷ [])) - 1 ≡ length rs = omega (arith, length-append rs (r ∷ [])) in
       rw i (flow_last rs r)
 
 -- THE ORDINATES
 unfoldable pub ordinates_for : (named nq n : ℕ) → List Result → List ℕ
-ordinates_for named nq n rs = if (1 ≤? named) && (named ≤? length rs) && (nq ≤? n) then named_flow named rs ++ replicate (n - nq) 0 else replicate n 0
+ordinates_for named nq n rs = when (1 ≤? named) && (named ≤? length rs) && (nq ≤? n) then named_flow named rs ++ replicate (n - nq) 0 else replicate n 0
 
 module _ (named nq n : ℕ) (rs : List Result) where
   pub ordinates_given : 1 ≤ named → named ≤ length rs → nq ≤ n → ordinates_for named nq n rs ≡ named_flow named rs ++ replicate (n - nq) 0
-  unfolding ordinates_for if◌then◌else◌
+  unfolding ordinates_for when◌then◌else◌
   ordinates_given some few room = rw (le-leb 1 named some, le-leb named (length rs) few, le-leb nq n room)
 
   pub none_named : named < 1 → ordinates_for named nq n rs ≡ replicate n 0
-  unfolding ordinates_for if◌then◌else◌
+  unfolding ordinates_for when◌then◌else◌
   none_named h = rw (lt-leb 1 named h)
 
   pub not_yet_closed : length rs < named → ordinates_for named nq n rs ≡ replicate n 0
-  unfolding ordinates_for if◌then◌else◌
+  unfolding ordinates_for when◌then◌else◌
   not_yet_closed h = rw (lt-leb named (length rs) h, and-false (1 ≤? named))
 
   no_room : n < nq → ordinates_for named nq n rs ≡ replicate n 0
-  unfolding ordinates_for if◌then◌else◌
+  unfolding ordinates_for when◌then◌else◌
   no_room h = rw (lt-leb nq n h, and-false ((1 ≤? named) && (named ≤? length rs)))
 
 -- one result more leaves them, unless it is the named block's

@@ -9,7 +9,7 @@ use Rattle.std.proofs.Common.{sym, ◌∙◌, arith}
 use Rattle.std.proofs.Math.Bool.{true, false}
 use mathlib.Core.List.{List, []}
 use Rattle.std.proofs.Math.ListN.{length}
-use Rattle.meaning.specs.Words.{◌<?◌, if◌then◌else◌, met, first}
+use Rattle.meaning.specs.Words.{◌<?◌, when◌then◌else◌, met, first}
 use Rattle.meaning.specs.Run.{Worked, Stopped, Done, Outcome, worked, Lent, refused, settled, outcome, work_size, deck_size}
 use Rattle.answers.specs.Answers.{size_refusal}
 
@@ -44,14 +44,14 @@ module _ (deck : List ℕ) (work : ℕ) where
 
 -- two tests as a chain of refusals, and as choices
 module _ (lent : Lent) (o : Outcome) where
-  one_is_met : (s t : Bool) → (first (met s 1) (met t 2) ≡ 0 → ⊥) → refused (first (met s 1) (met t 2)) 0 lent ≡ (if s then refused 1 0 lent else if t then refused 2 0 lent else o)
-  unfolding if◌then◌else◌
+  one_is_met : (s t : Bool) → (first (met s 1) (met t 2) ≡ 0 → ⊥) → refused (first (met s 1) (met t 2)) 0 lent ≡ (when s then refused 1 0 lent else when t then refused 2 0 lent else o)
+  unfolding when◌then◌else◌
   one_is_met true t h = refl
   one_is_met false true h = refl
   one_is_met false false h = absurd (h refl)
 
-  none_is_met : (s t : Bool) → first (met s 1) (met t 2) ≡ 0 → o ≡ (if s then refused 1 0 lent else if t then refused 2 0 lent else o)
-  unfolding if◌then◌else◌
+  none_is_met : (s t : Bool) → first (met s 1) (met t 2) ≡ 0 → o ≡ (when s then refused 1 0 lent else when t then refused 2 0 lent else o)
+  unfolding when◌then◌else◌
   none_is_met true t h = absurd (omega arith)
   none_is_met false true h = absurd (omega arith)
   none_is_met false false h = refl

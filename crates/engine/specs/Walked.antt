@@ -7,7 +7,7 @@ use Rattle.std.proofs.Math.Bool.{true, false}
 use Rattle.sequences.specs.Choices.{both_fail}
 use Rattle.sequences.specs.Refusals.{neither_met, not_met}
 use Rattle.meaning.specs.Blocks.{or_whole}
-use Rattle.meaning.specs.Words.{◌<?◌, if◌then◌else◌, met}
+use Rattle.meaning.specs.Words.{◌<?◌, when◌then◌else◌, met}
 use Rattle.meaning.specs.Run.{Outcome, Lent, refused, block_count, record_bytes, accepted, no_room, outcome, work_size, deck_size}
 use Rattle.answers.specs.Answers.{outcome_is, lent_as, lacking, size_refusal, settled_as}
 use Rattle.answers.specs.declared.Answer.TheVariants as answer
@@ -60,9 +60,9 @@ module _ (deck : List ℕ) (named ratio : ℕ) (work ordinates records work' ord
         ∙ rw (d.ordinates-are, d.blocks-are, lw))
 
     by_room : (t : Bool) → lacking nq blocks ratios named ratio (length ordinates') (length records') ≡ t
-        → (if t then refused 17 0 (lent_as work' ordinates' records') else outcome_is (answer.Accepted nq blocks ratios) (replicate (length work') 0) ordinates' records')
-        ≡ (if t then refused 17 0 lent else accepted named ratio d.time d.results lent)
-    unfolding if◌then◌else◌
+        → (when t then refused 17 0 (lent_as work' ordinates' records') else outcome_is (answer.Accepted nq blocks ratios) (replicate (length work') 0) ordinates' records')
+        ≡ (when t then refused 17 0 lent else accepted named ratio d.time d.results lent)
+    unfolding when◌then◌else◌
     by_room true h = rw (lw, lo, lr)
     by_room false h = as_they_stand h
 

@@ -9,7 +9,7 @@ use Rattle.std.proofs.Common.{sym, ap, ◌∙◌, ⊎_elim, mul-le-mul_left, ari
 use Rattle.std.proofs.lemmas.Bool.{lt-leb}
 use Rattle.sequences.specs.Choices.{below_or_not}
 use Rattle.sequences.specs.Sums.{sum_to_below}
-use Rattle.meaning.specs.Words.{◌≤?◌, if◌then◌else◌}
+use Rattle.meaning.specs.Words.{◌≤?◌, when◌then◌else◌}
 use Rattle.meaning.specs.Water.{sum_of, uniform_part, unfilled_after, excess_of, share, ordinate}
 use Rattle.meaning.specs.Losses.{former_after, former_excess}
 use Rattle.excess.specs.Balance.{left_of, uniform_alone}
@@ -17,7 +17,7 @@ use Rattle.excess.specs.Losses.{left_is, unfilled_is}
 
 -- What the former rule left of an interval, with so much rain before it.
 abbrev former_left : (initial uniform before rain : ℕ) → ℕ
-former_left initial uniform before rain = rain - (if before + rain ≤? initial then rain else min rain uniform)
+former_left initial uniform before rain = rain - (when before + rain ≤? initial then rain else min rain uniform)
 
 -- An interval whose rain passes what is unfilled, and one whose rain does not: what is left by the two rules, and what is still unfilled.
 module _ (left still former unfilled uniform rain : ℕ) (l : left ≡ rain - unfilled - uniform) (s : still ≡ unfilled - rain) where
@@ -29,11 +29,11 @@ module _ (left still former unfilled uniform rain : ℕ) (l : left ≡ rain - un
 
 module _ (initial uniform before rain : ℕ) where
   lost_whole : before + rain ≤ initial → former_left initial uniform before rain ≡ 0
-  unfolding if◌then◌else◌
+  unfolding when◌then◌else◌
   lost_whole h = rw (le-leb (before + rain) initial h) (omega arith)
 
   lost_then : initial < before + rain → former_left initial uniform before rain ≡ rain - min rain uniform
-  unfolding if◌then◌else◌
+  unfolding when◌then◌else◌
   lost_then h = rw (lt-leb (before + rain) initial h)
 
   -- the two rules part by no more than the interval fills of the initial loss

@@ -4,7 +4,7 @@ use Rattle.std.specs.Prelude.{ℕ, suc, ◌+◌, ◌-◌, ◌≤◌, ◌<◌, �
 use Rattle.std.proofs.Common.{sym, ◌∙◌, ap, ⊎_elim, add-one, arith, drop_of_length-le, drop-drop}
 use borrow.Author.Tests.{ne_eqb, lt-ltb, le-ltb, le-leb, lt-leb}
 use Rattle.std.proofs.Math.Seq.{drop-cons, take-nil}
-use Rattle.meaning.specs.Words.{◌=?◌, if◌then◌else◌, empty}
+use Rattle.meaning.specs.Words.{◌=?◌, when◌then◌else◌, empty}
 use Rattle.meaning.specs.Lines.{blank}
 use Rattle.meaning.specs.Fields.{Form, Fixed, Free, is_blank, comma, mark_of, trim_end, skip_blanks, strip, word, name_in}
 use Rattle.meaning.specs.Records.{any_blank, bad_name}
@@ -27,7 +27,7 @@ name_some form l c h = passed _ (lt-leb _ _ h) refl
 
 -- in free form a name is a run
 word-run : (s : List ℕ) → word s ≡ take (run in_value s) s
-unfolding word run mark_of if◌then◌else◌
+unfolding word run mark_of when◌then◌else◌
 word-run [] = refl
 word-run (b ∷ s) = go (b =? blank) refl (b =? comma) refl (word-run s)
   where
@@ -42,7 +42,7 @@ name_at Free l c = word (drop c l)
 name_at Fixed l c = strip (cut l c 8)
 
 name-is : (form : Form) (l : List ℕ) → name_at form l (first_place form l) ≡ name_in form l
-unfolding start_of if◌then◌else◌
+unfolding start_of when◌then◌else◌
 name-is Free l = ap word (sym (drop-drop (run is_blank (drop 2 l)) 2 l) ∙ sym (skip_drop (drop 2 l)))
 name-is Fixed l = sym (field_cut l 0)
 

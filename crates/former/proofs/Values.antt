@@ -11,7 +11,7 @@ use Rattle.std.proofs.Math.Bool.{true, false}
 use Rattle.std.proofs.Math.Nat.{one-le-pow}
 use Rattle.std.proofs.lemmas.List.{length-replicate}
 use Rattle.sequences.specs.Digits.{read_on-append, read_on-zeros, fraction_split}
-use Rattle.meaning.specs.Words.{◌=?◌, ◌≤?◌, ◌<?◌, if◌then◌else◌}
+use Rattle.meaning.specs.Words.{◌=?◌, ◌≤?◌, ◌<?◌, when◌then◌else◌}
 use Rattle.meaning.specs.Numbers.{Number, NoNumber, Decimal, unsigned, before_point, behind_point, all_digits, read_on, fraction_left, decimal_of, number_of, Value, Malformed, Negative, Units, in_units}
 use Rattle.meaning.specs.Records.{is_malformed}
 use Rattle.former.specs.Reader.{former_decimal, former_number}
@@ -33,13 +33,13 @@ module _ (d z : ℕ) where
 
   same_units : (allowed : ℕ) (minus : Bool) (p : ℕ) → is_malformed (in_units allowed (Decimal minus (d * 10 ^ z) (p + z))) ≡ false
       → in_units allowed (Decimal minus d p) ≡ in_units allowed (Decimal minus (d * 10 ^ z) (p + z))
-  unfolding in_units if◌then◌else◌
+  unfolding in_units when◌then◌else◌
   same_units allowed minus p = by (allowed <? (p + z)) refl
     where
       value : Value
-      value = if minus && (0 <? d * 10 ^ z) then Negative else Units (d * 10 ^ z * 10 ^ (allowed - (p + z)))
+      value = when minus && (0 <? d * 10 ^ z) then Negative else Units (d * 10 ^ z * 10 ^ (allowed - (p + z)))
 
-      by : (t : Bool) → (allowed <? (p + z)) ≡ t → is_malformed (if t then Malformed else value) ≡ false → in_units allowed (Decimal minus d p) ≡ (if t then Malformed else value)
+      by : (t : Bool) → (allowed <? (p + z)) ≡ t → is_malformed (when t then Malformed else value) ≡ false → in_units allowed (Decimal minus d p) ≡ (when t then Malformed else value)
       by true e h = absurd (true≢false h)
       by false e h =
           let within : p + z ≤ allowed = ltb-false allowed (p + z) e in
@@ -81,19 +81,19 @@ module _ (minus : Bool) (s : List ℕ) where
   kept-digits allowed = rw (former_digits s, former_places s) (same_units (read_on 0 (left s)) (zeros s) allowed minus (length (fraction_left s)))
 
   kept_decimal : (allowed : ℕ) → is_malformed (in_units allowed (former_decimal minus s)) ≡ false → in_units allowed (decimal_of minus s) ≡ in_units allowed (former_decimal minus s)
-  unfolding in_units decimal_of former_decimal if◌then◌else◌
+  unfolding in_units decimal_of former_decimal when◌then◌else◌
   kept_decimal allowed = by asked
     where
-      by : (t : Bool) → is_malformed (in_units allowed (if t then before else NoNumber)) ≡ false
-          → in_units allowed (if t then now else NoNumber) ≡ in_units allowed (if t then before else NoNumber)
+      by : (t : Bool) → is_malformed (in_units allowed (when t then before else NoNumber)) ≡ false
+          → in_units allowed (when t then now else NoNumber) ≡ in_units allowed (when t then before else NoNumber)
       by true h = kept-digits allowed h
       by false h = absurd (true≢false h)
 
   same_decimals : (decimal_of minus s ≡ NoNumber) ↔ (former_decimal minus s ≡ NoNumber)
-  unfolding decimal_of former_decimal if◌then◌else◌
+  unfolding decimal_of former_decimal when◌then◌else◌
   same_decimals = by asked
     where
-      by : (t : Bool) → ((if t then now else NoNumber) ≡ NoNumber) ↔ ((if t then before else NoNumber) ≡ NoNumber)
+      by : (t : Bool) → ((when t then now else NoNumber) ≡ NoNumber) ↔ ((when t then before else NoNumber) ≡ NoNumber)
       by true = (λ h. cc, λ h. cc)
       by false = (λ h. refl, λ h. refl)
 

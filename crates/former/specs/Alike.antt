@@ -11,7 +11,7 @@ use Rattle.std.proofs.Math.Logic.{inr}
 use mathlib.Core.List.{List, [], ◌∷◌}
 use Rattle.std.proofs.Math.ListN.{length, drop}
 use Rattle.sequences.specs.Choices.{both_fail}
-use Rattle.meaning.specs.Words.{◌<?◌, if◌then◌else◌, empty, met, first}
+use Rattle.meaning.specs.Words.{◌<?◌, when◌then◌else◌, empty, met, first}
 use Rattle.meaning.specs.Lines.{lines_of}
 use Rattle.meaning.specs.Fields.{Fixed, fields_of}
 use Rattle.meaning.specs.Numbers.{Number, in_units}
@@ -144,8 +144,8 @@ module _ (old new : List ℕ → Number) (keeps : (allowed : ℕ) (f : List ℕ)
     settled_alike w w' (inl stopped) = inl (stopped.0, rw stopped.1)
     settled_alike w w' (inr same) = inr (rw same)
 
-    size_alike : (t : Bool) (o o' o'' : Outcome) → Alike six o o' → Alike six (if t then o'' else o) (if t then o'' else o')
-    unfolding if◌then◌else◌
+    size_alike : (t : Bool) (o o' o'' : Outcome) → Alike six o o' → Alike six (when t then o'' else o) (when t then o'' else o')
+    unfolding when◌then◌else◌
     size_alike true o o' o'' h = inr refl
     size_alike false o o' o'' h = h
 

@@ -1,7 +1,7 @@
 -- The reading of decks with the number reader left open: the definitions of meaning/specs/Records and Run that look at a number, over any reader. All else is used as it
 -- stands there. With `number_of` they are those definitions (Followed), and with `former_number` what they were.
 use Rattle.std.specs.Prelude.{ℕ, ◌+◌, Bool, not, List, [], ◌∷◌, length, drop}
-use Rattle.meaning.specs.Words.{◌<?◌, if◌then◌else◌, empty, met, first}
+use Rattle.meaning.specs.Words.{◌<?◌, when◌then◌else◌, empty, met, first}
 use Rattle.meaning.specs.Lines.{lines_of}
 use Rattle.meaning.specs.Fields.{Fixed, fields_of}
 use Rattle.meaning.specs.Numbers.{Number, in_units}
@@ -118,6 +118,6 @@ module _ (read : List ℕ → Number) where
 
   unfoldable pub outcome_by : List ℕ → (named ratio : ℕ) → Lent → Outcome
   outcome_by deck named ratio lent =
-      if lent.work <? work_size then refused 1 0 lent else
-      if deck_size <? length deck then refused 2 0 lent else
+      when lent.work <? work_size then refused 1 0 lent else
+      when deck_size <? length deck then refused 2 0 lent else
       settled named ratio lent (worked_under_by Every deck)

@@ -4,7 +4,7 @@
 use Rattle.std.specs.Prelude.{ℕ, zero, suc, ◌+◌, ◌-◌, ◌/◌, ◌%◌, ◌<◌, ◌≡◌, refl, List, [], ◌∷◌, ◌++◌, length, get_or, take}
 use Prim.Native.Char.{code}
 use Rattle.std.proofs.Common.{ap, add-one, arith}
-use Rattle.meaning.specs.Words.{◌<?◌, if◌then◌else◌, bytes}
+use Rattle.meaning.specs.Words.{◌<?◌, when◌then◌else◌, bytes}
 use Rattle.meaning.specs.Listing.{digit}
 
 -- Two digits.
@@ -12,7 +12,7 @@ abbrev pub byte_size : ℕ
 byte_size = 2
 
 abbrev pub hex_digit : ℕ → ℕ
-hex_digit d = if d <? 10 then digit d else code "a" + (d - 10)
+hex_digit d = when d <? 10 then digit d else code "a" + (d - 10)
 
 abbrev pub hex : ℕ → List ℕ
 hex b = hex_digit (b / 16) ∷ hex_digit (b % 16) ∷ []
@@ -22,7 +22,7 @@ hex_all [] = []
 hex_all (b ∷ bs) = hex b ++ hex_all bs
 
 three-bytes : hex_all (0 ∷ 85 ∷ 250 ∷ []) ≡ bytes "0055fa"
-unfolding if◌then◌else◌
+unfolding when◌then◌else◌
 three-bytes = refl
 
 hex-next : (i : ℕ) (bs : List ℕ) → i < length bs → hex_all (take (suc i) bs) ≡ hex_all (take i bs) ++ hex (get_or bs i 0)

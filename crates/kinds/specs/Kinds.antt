@@ -6,7 +6,7 @@
 use Rattle.std.specs.Prelude.{ℕ, zero, suc, ◌+◌, ◌<◌, ◌≡◌, refl, Bool, true, false, ◌&&◌, List, [], ◌∷◌, ◌++◌, length, get_or}
 use Rattle.std.proofs.Common.{sym, ◌∙◌, ap, arith, eq-eqb, ne_eqb}
 use Rattle.sequences.specs.Choices.{both_hold, both_fail}
-use Rattle.meaning.specs.Words.{◌=?◌, if◌then◌else◌}
+use Rattle.meaning.specs.Words.{◌=?◌, when◌then◌else◌}
 use Rattle.meaning.specs.Records.{Item}
 use Rattle.meaning.specs.Blocks as blocks
 use Rattle.meaning.specs.Blocks.{Card, Absent, is_given, Block, card_of, kind_number, Set, SetOf, sets, among, agrees_at, agrees_from, holds, kind_in, kind_of}
@@ -48,7 +48,7 @@ kind_told x y e = meant-back x ∙ rw e (sym (meant-back y))
 
 abbrev pub kind_at : List Set → ℕ → blocks.Kind
 kind_at [] mask = blocks.NoKind
-kind_at (SetOf kind must may ∷ rest) mask = if among mask (masks must may 0 items) then kind else kind_at rest mask
+kind_at (SetOf kind must may ∷ rest) mask = when among mask (masks must may 0 items) then kind else kind_at rest mask
 
 by_masks : (ss : List Set) (b : Block) → length b.cards ≡ items → kind_in ss b ≡ kind_at ss (mask_of b.cards)
 unfolding holds
@@ -79,7 +79,7 @@ keys_of [] = []
 keys_of (SetOf kind must may ∷ rest) = masks must may 0 items ++ keys_of rest
 
 no_set : (ss : List Set) (m : ℕ) → among m (keys_of ss) ≡ false → blocks.NoKind ≡ kind_at ss m
-unfolding if◌then◌else◌
+unfolding when◌then◌else◌
 no_set [] m h = refl
 no_set (SetOf kind must may ∷ rest) m h =
     let both = both_fail (among m (masks must may 0 items)) (among m (keys_of rest)) (sym (among-append m (masks must may 0 items) (keys_of rest)) ∙ h) in
@@ -90,7 +90,7 @@ kind_by_none m h = no_set sets m (not_among Unit (keys_of sets) m h)
 
 -- WHAT A KIND HAS
 agrees_must : (must may : List Item) (cs : List Card) (i p : ℕ) → agrees_from must may i cs ≡ true → p < length cs → among (i + p) must ≡ true → is_given (get_or cs p Absent) ≡ true
-unfolding if◌then◌else◌
+unfolding when◌then◌else◌
 agrees_must must may [] i p h k m = absurd (omega arith)
 agrees_must must may (c ∷ cs) i zero h k m =
     let e : i + 0 ≡ i = omega arith in
@@ -103,18 +103,18 @@ agrees_must must may (c ∷ cs) i (suc p) h k m =
 -- every set of a kind must have the record
 abbrev pub always : List Set → ℕ → Item → Bool
 always [] number item = true
-always (SetOf kind must may ∷ rest) number item = (if kind_number kind =? number then among item must else true) && always rest number item
+always (SetOf kind must may ∷ rest) number item = (when kind_number kind =? number then among item must else true) && always rest number item
 
 in_sets : (ss : List Set) (b : Block) (number : ℕ) (item : Item) → (number ≡ 0 → ⊥) → item < length b.cards → always ss number item ≡ true → kind_number (kind_in ss b) ≡ number
     → is_given (card_of item b) ≡ true
-unfolding holds if◌then◌else◌
+unfolding holds when◌then◌else◌
 in_sets [] b number item some inside all e = absurd (some (sym e))
 in_sets (SetOf kind must may ∷ rest) b number item some inside all e =
-    let both = both_hold (if kind_number kind =? number then among item must else true) (always rest number item) all in
+    let both = both_hold (when kind_number kind =? number then among item must else true) (always rest number item) all in
     go (agrees_from must may 0 b.cards) refl both.0 e (λ f. in_sets rest b number item some inside both.1 f)
   where
-    go : (t : Bool) → agrees_from must may 0 b.cards ≡ t → (if kind_number kind =? number then among item must else true) ≡ true
-        → kind_number (if t then kind else kind_in rest b) ≡ number → (kind_number (kind_in rest b) ≡ number → is_given (card_of item b) ≡ true) → is_given (card_of item b) ≡ true
+    go : (t : Bool) → agrees_from must may 0 b.cards ≡ t → (when kind_number kind =? number then among item must else true) ≡ true
+        → kind_number (when t then kind else kind_in rest b) ≡ number → (kind_number (kind_in rest b) ≡ number → is_given (card_of item b) ≡ true) → is_given (card_of item b) ≡ true
     go true a own f later =
         let here : among item must ≡ true = rw (eq-eqb (kind_number kind) number f) at own in
         let z : 0 + item ≡ item = omega arith in

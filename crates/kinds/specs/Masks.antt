@@ -7,7 +7,7 @@ use Rattle.std.proofs.Common.{sym, ◌∙◌, arith, eq-eqb, ne_eqb, eqb-true, p
 use Rattle.std.proofs.Math.Bool.{or-false}
 use Rattle.std.proofs.lemmas.Bool.{eqb-false}
 use Rattle.std.proofs.Math.Nat.{pow-zero, pow-le-pow_right}
-use Rattle.meaning.specs.Words.{◌=?◌, if◌then◌else◌}
+use Rattle.meaning.specs.Words.{◌=?◌, when◌then◌else◌}
 use Rattle.meaning.specs.Records.{Item}
 use Rattle.meaning.specs.Blocks.{Card, Absent, is_given, card_of, among, agrees_from}
 use Rattle.records.specs.Rows.{items}
@@ -31,8 +31,8 @@ abbrev pub masks : (must may : List Item) → Item → ℕ → List ℕ
 masks must may item zero = 0 ∷ []
 masks must may item (suc n) =
     let ms = masks must may (item + 1) n in
-    if among item must then behind true ms else
-    if among item may then behind false ms ++ behind true ms else
+    when among item must then behind true ms else
+    when among item may then behind false ms ++ behind true ms else
     behind false ms
 
 -- a number with that bit before it is among those with that bit, and not among those with the other
@@ -65,9 +65,9 @@ among-append n (x ∷ xs) ys = go (n =? x) (among-append n xs ys)
 
 -- one card more
 among_next : (must may : Bool) (given : Bool) (m : ℕ) (ms : List ℕ)
-    → ((if must then given else if may then true else not given) && among m ms)
-    ≡ among (bit_of given + 2 * m) (if must then behind true ms else if may then behind false ms ++ behind true ms else behind false ms)
-unfolding if◌then◌else◌
+    → ((when must then given else when may then true else not given) && among m ms)
+    ≡ among (bit_of given + 2 * m) (when must then behind true ms else when may then behind false ms ++ behind true ms else behind false ms)
+unfolding when◌then◌else◌
 among_next true may true m ms = sym (among-behind true m ms)
 among_next true may false m ms = sym (not_behind false true (λ e. omega arith) m ms)
 among_next false true true m ms =

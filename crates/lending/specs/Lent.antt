@@ -11,24 +11,24 @@ use borrow.Author.Tests.{lt-ltb, le-ltb, eq-eqb, ne_eqb}
 use Rattle.sequences.specs.Choices.{below_or_not}
 use Rattle.sequences.specs.Parts.{part, part_to_end}
 use Rattle.sequences.specs.Zeros.{drop-replicate}
-use Rattle.meaning.specs.Words.{◌=?◌, ◌<?◌, if◌then◌else◌}
+use Rattle.meaning.specs.Words.{◌=?◌, ◌<?◌, when◌then◌else◌}
 use Rattle.meaning.specs.Run.{record_bytes}
 
 unfoldable pub ordinates_from : (refused : Bool) (ratio place n : ℕ) → ℕ
 ordinates_from refused ratio place n =
-    if refused then n else
-    if ratio =? 0 then 0 else
-    if ratio =? (place + 1) then 0 else
+    when refused then n else
+    when ratio =? 0 then 0 else
+    when ratio =? (place + 1) then 0 else
     n
 
 unfoldable pub records_from : (refused : Bool) (blocks place m : ℕ) → ℕ
 records_from refused blocks place m =
-    if refused then m else
-    if record_bytes blocks place <? m then record_bytes blocks place else
+    when refused then m else
+    when record_bytes blocks place <? m then record_bytes blocks place else
     m
 
-from_within : (r s t : Bool) (n : ℕ) → (if r then n else if s then 0 else if t then 0 else n) ≤ n
-unfolding if◌then◌else◌
+from_within : (r s t : Bool) (n : ℕ) → (when r then n else when s then 0 else when t then 0 else n) ≤ n
+unfolding when◌then◌else◌
 from_within true s t n = omega arith
 from_within false true t n = omega arith
 from_within false false true n = omega arith
@@ -41,7 +41,7 @@ ordinates_within refused ratio place n = from_within refused (ratio =? 0) (ratio
 module _ (ratio place n : ℕ) where
   -- all of them are lent
   pub ordinates-here : (ratio ≡ 0) ⊎ (ratio ≡ place + 1) → ordinates_from false ratio place n ≡ 0
-  unfolding ordinates_from if◌then◌else◌
+  unfolding ordinates_from when◌then◌else◌
   ordinates-here h =
       ⊎_elim
       (λ (none : ratio ≡ 0). rw (eq-eqb ratio 0 none))
@@ -50,20 +50,20 @@ module _ (ratio place n : ℕ) where
 
   -- none is
   pub ordinates_else : 0 < ratio → ratio ≤ place → ordinates_from false ratio place n ≡ n
-  unfolding ordinates_from if◌then◌else◌
+  unfolding ordinates_from when◌then◌else◌
   ordinates_else some below = rw (ne_eqb ratio 0 (λ z. omega arith), ne_eqb ratio (place + 1) (λ z. omega arith))
 
 module _ (blocks place m : ℕ) where
   pub records-refused : records_from true blocks place m ≡ m
-  unfolding records_from if◌then◌else◌
+  unfolding records_from when◌then◌else◌
   records-refused = refl
 
   pub records_past : m ≤ record_bytes blocks place → records_from false blocks place m ≡ m
-  unfolding records_from if◌then◌else◌
+  unfolding records_from when◌then◌else◌
   records_past h = rw (le-ltb (record_bytes blocks place) m h)
 
   pub records_before : record_bytes blocks place < m → records_from false blocks place m ≡ record_bytes blocks place
-  unfolding records_from if◌then◌else◌
+  unfolding records_from when◌then◌else◌
   records_before h = rw (lt-ltb (record_bytes blocks place) m h)
 
   -- behind those of the rounds before, where there is room for these

@@ -6,7 +6,7 @@ use Rattle.std.specs.Prelude.{ℕ, ◌+◌, ◌≤◌, ◌<◌, max, ◌≡◌, 
 use Rattle.std.proofs.Common.{sym, ◌∙◌, true≢false, ⊎_elim, arith}
 use Rattle.std.proofs.Math.ListN.{get_or-eq_default}
 use Rattle.sequences.specs.Choices.{both_fail, below_or_not}
-use Rattle.meaning.specs.Words.{if◌then◌else◌, empty}
+use Rattle.meaning.specs.Words.{when◌then◌else◌, empty}
 use Rattle.meaning.specs.Fields.{Form, trim_end, fields_in, fields_of}
 use Rattle.meaning.specs.Records.{Rule, Unnamed, rule_at, faulty_field, any_field, any_faulty, values_from}
 
@@ -38,13 +38,13 @@ past_rules rules k f past e =
     not_false (empty f) blank
 
 few-fields : (rules : List Rule) (k : ℕ) (fs : List (List ℕ)) → any_faulty rules k (trim_end empty fs) ≡ false → k + length (trim_end empty fs) ≤ max k (length rules)
-unfolding trim_end any_field if◌then◌else◌
+unfolding trim_end any_field when◌then◌else◌
 few-fields rules k [] e = omega arith
 few-fields rules k (f ∷ fs) e = by (empty f && empty (trim_end empty fs)) refl (few-fields rules (k + 1) fs) e
   where
     by : (t : Bool) → (empty f && empty (trim_end empty fs)) ≡ t
         → (any_faulty rules (k + 1) (trim_end empty fs) ≡ false → k + 1 + length (trim_end empty fs) ≤ max (k + 1) (length rules))
-        → any_faulty rules k (if t then [] else f ∷ trim_end empty fs) ≡ false → k + length (if t then [] else f ∷ trim_end empty fs) ≤ max k (length rules)
+        → any_faulty rules k (when t then [] else f ∷ trim_end empty fs) ≡ false → k + length (when t then [] else f ∷ trim_end empty fs) ≤ max k (length rules)
     by true last ih g = omega arith
     by false last ih g =
         let each = both_fail (faulty_field (rule_at rules k) f) (any_faulty rules (k + 1) (trim_end empty fs)) g in

@@ -9,7 +9,7 @@ use Rattle.std.proofs.Math.Seq.{set_out}
 use Rattle.std.proofs.lemmas.List.{length-replicate}
 use Rattle.sequences.specs.Refusals.{neither_met, not_met}
 use Rattle.sequences.specs.Choices.{below_or_not}
-use Rattle.meaning.specs.Words.{◌=?◌, if◌then◌else◌, empty, met}
+use Rattle.meaning.specs.Words.{◌=?◌, when◌then◌else◌, empty, met}
 use Rattle.meaning.specs.Fields.{Form, fields_of, name_in}
 use Rattle.meaning.specs.Records.{Item, Row, Once, Listed, table, row_of, rules_in, lists_in, Record, ID, IT, JR, KK, KM, ZZ, Control, Of, Rule, Limited, rule_at, time_rules, ratio_rules, rules_of, filled_up, value_fields, any_faulty, any_outside, values_from, bad_name, most_ordinates}
 use Rattle.meaning.specs.Blocks.{Time, ratio_at, under, Card, Absent, Given, is_given, values_of, Block, card_of, opened, repeated, too_many}
@@ -95,12 +95,12 @@ same_rules (suc n) r (suc j) = same_rules n r j
 
 pub record SoundCard (row : Row) (c : Card) (fs : List (List ℕ)) : Type 0 where
   pub once : (not (lists_in row) && is_given c) ≡ false
-  pub formed : any_faulty (rules_in row) 0 (if lists_in row then fs else filled_up (rules_in row) fs) ≡ false
-  pub inside : any_outside (rules_in row) 0 (if lists_in row then fs else filled_up (rules_in row) fs) ≡ false
+  pub formed : any_faulty (rules_in row) 0 (when lists_in row then fs else filled_up (rules_in row) fs) ≡ false
+  pub inside : any_outside (rules_in row) 0 (when lists_in row then fs else filled_up (rules_in row) fs) ≡ false
 
 within_card : (row : Row) (c : Card) (fs : List (List ℕ)) → SoundCard row c fs → CardWithin row c
-    → CardWithin row (Given (values_of c ++ values_from (rules_in row) 0 (if lists_in row then fs else filled_up (rules_in row) fs)))
-unfolding if◌then◌else◌
+    → CardWithin row (Given (values_of c ++ values_from (rules_in row) 0 (when lists_in row then fs else filled_up (rules_in row) fs)))
+unfolding when◌then◌else◌
 within_card (Once i rules) c fs s w =
     let long = filled_long rules fs in
     let at : (j : ℕ) → 0 + j ≡ j = λ (j : ℕ). omega arith in

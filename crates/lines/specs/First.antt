@@ -11,7 +11,7 @@ use native.Mathlib.Omega.{arith}
 use borrow.Author.Tests.{eqb-true, lt-ltb, le-ltb, ltb-true, ltb-false, leb-true, leb-false}
 use Rattle.std.proofs.Math.ListN.{length, get_or, length-drop, length-append, get_or-eq_default}
 use Rattle.std.proofs.Math.Seq.{drop-cons, get_or-drop}
-use Rattle.meaning.specs.Words.{◌=?◌, ◌≤?◌, ◌<?◌, if◌then◌else◌}
+use Rattle.meaning.specs.Words.{◌=?◌, ◌≤?◌, ◌<?◌, when◌then◌else◌}
 use Rattle.meaning.specs.Lines.{lf, cr, in_front, lines_of, foreign}
 use Rattle.sequences.specs.Choices.{below_or_not, both_hold}
 use Rattle.sequences.specs.Parts.{part}
@@ -50,18 +50,18 @@ begun xs (l ∷ ls) h = record { more = l; rest = ls; lines = front-line xs l ls
 -- the lines from a byte on, where a line ends and where not
 module _ (s : List ℕ) (i : ℕ) (more : i < length s) where
   lines_at_lf : get_or s i 0 ≡ lf → lines_of (drop i s) ≡ [] ∷ lines_of (drop (i + 1) s)
-  unfolding lines_of if◌then◌else◌
+  unfolding lines_of when◌then◌else◌
   lines_at_lf h = rw (add-one, drop-cons s i 0 more, h)
 
   lines_at_cr-lf : i + 1 < length s → get_or s i 0 ≡ cr → get_or s (i + 1) 0 ≡ lf → lines_of (drop i s) ≡ [] ∷ lines_of (drop (i + 2) s)
-  unfolding lines_of if◌then◌else◌
+  unfolding lines_of when◌then◌else◌
   lines_at_cr-lf still h k =
       let e : i + 2 ≡ suc (suc i) = omega arith in
       rw (drop-cons s i 0 more, h, drop-cons s (suc i) 0 (omega arith), rw add-one at k, e)
 
   lines_at_other : (get_or s i 0 =? lf) ≡ false → ((get_or s i 0 =? cr) && (get_or s (i + 1) 0 =? lf)) ≡ false
       → lines_of (drop i s) ≡ in_front (get_or s i 0) (lines_of (drop (i + 1) s))
-  unfolding lines_of if◌then◌else◌
+  unfolding lines_of when◌then◌else◌
   lines_at_other h k =
       let e : get_or (drop (suc i) s) 0 0 ≡ get_or s (i + 1) 0 = get_or-drop (suc i) s 0 0 ∙ ap (λ (j : ℕ). get_or s j 0) (omega arith) in
       rw (drop-cons s i 0 more, h, e, k, add-one)
@@ -161,12 +161,12 @@ module _ (s : List ℕ) (at : ℕ) (inside : at < length s) where
   Told false end next = ForeignAt s at
 
   told : Told (line_at s at).fair (line_at s at).end (line_at s at).next
-  unfolding line_from line_ending if◌then◌else◌
+  unfolding line_from line_ending when◌then◌else◌
   told = go (80 <? (end - at)) refl (length s ≤? end) refl (get_or s end 0 =? lf) refl ((get_or s end 0 =? cr) && (get_or s (end + 1) 0 =? lf)) refl
     where
       go : (a : Bool) → (80 <? (end - at)) ≡ a → (b : Bool) → (length s ≤? end) ≡ b → (c : Bool) → (get_or s end 0 =? lf) ≡ c
           → (d : Bool) → ((get_or s end 0 =? cr) && (get_or s (end + 1) 0 =? lf)) ≡ d
-          → let r : Line = if a then unfair_line end else if b then fair_line end end else if c then fair_line end (end + 1) else if d then fair_line end (end + 2) else unfair_line end in
+          → let r : Line = when a then unfair_line end else when b then fair_line end end else when c then fair_line end (end + 1) else when d then fair_line end (end + 2) else unfair_line end in
           Told r.fair r.end r.next
       go true p b q c r d t = foreign_long (ltb-true _ _ p)
       go false p true q c r d t = fair_end (ltb-false _ _ p) (leb-true _ _ q)

@@ -1,7 +1,7 @@
 -- Plain bytes, and what a run of them says of the lines that a deck falls into: they are the front of its first line.
 use Rattle.std.specs.Prelude.{ℕ, suc, ◌<◌, ◌≡◌, refl, Bool, true, false, List, [], ◌∷◌, ◌++◌, length, take, drop}
 use Rattle.std.proofs.Common.{ap, arith}
-use Rattle.meaning.specs.Words.{if◌then◌else◌}
+use Rattle.meaning.specs.Words.{when◌then◌else◌}
 use Rattle.meaning.specs.Lines.{lf, cr, in_front, lines_of, all_plain}
 use Rattle.sequences.specs.Runs.{run, every, is_every, test_tells}
 use Rattle.lines.specs.Line.{is_plain}
@@ -25,11 +25,11 @@ front_none (x ∷ []) h = refl
 front_none (x ∷ y ∷ xs) h = rw (front_none (y ∷ xs) (omega arith))
 
 pub lines-run : (s : List ℕ) → lines_of s ≡ front (take (run is_plain s) s) (lines_of (drop (run is_plain s) s))
-unfolding run lines_of if◌then◌else◌
+unfolding run lines_of when◌then◌else◌
 lines-run [] = refl
 lines-run (b ∷ s) = go (is_plain b) refl (lines-run s)
   where
     go : (t : Bool) → is_plain b ≡ t → lines_of s ≡ front (take (run is_plain s) s) (lines_of (drop (run is_plain s) s))
-        → lines_of (b ∷ s) ≡ front (take (if t then suc (run is_plain s) else 0) (b ∷ s)) (lines_of (drop (if t then suc (run is_plain s) else 0) (b ∷ s)))
+        → lines_of (b ∷ s) ≡ front (take (when t then suc (run is_plain s) else 0) (b ∷ s)) (lines_of (drop (when t then suc (run is_plain s) else 0) (b ∷ s)))
     go true e ih = rw (test_tells is_plain b lf e refl, test_tells is_plain b cr e refl) (ap (in_front b) ih)
     go false e ih = refl

@@ -12,7 +12,7 @@ use Rattle.std.proofs.Math.Nat.{mul-le-mul}
 use borrow.Author.Tests.{le-ltb, ltb-false, eqb-false}
 use Rattle.std.proofs.Math.ListN.{length}
 use Rattle.sequences.specs.Choices.{both_fail}
-use Rattle.meaning.specs.Words.{◌=?◌, ◌<?◌, if◌then◌else◌}
+use Rattle.meaning.specs.Words.{◌=?◌, ◌<?◌, when◌then◌else◌}
 use Rattle.meaning.specs.Blocks.{Time, ratio_at, under}
 use Rattle.meaning.specs.Results.{Result}
 use Rattle.meaning.specs.Records.{most_ordinates}
@@ -29,7 +29,7 @@ use Rattle.listing.specs.Printed.{lent_room, fitting_few}
 
 -- the number, from 1, of what is named (0: the last)
 abbrev pub number_of : (named count : ℕ) → ℕ
-number_of named count = if named =? 0 then count else named
+number_of named count = when named =? 0 then count else named
 
 -- the line of a refusal
 abbrev line_of : Answer → List ℕ
@@ -61,9 +61,9 @@ module _ (named ratio : ℕ) (τ : Time) (rss : List (List Result)) (f : Fitting
 -- REFUSED
 module _ (text : Time → List Result → List ℕ) (deck : List ℕ) (named ratio : ℕ) where
   by_room : (t : Bool) (τ : Time) (rss : List (List Result)) (some : List ℕ) (number line : ℕ)
-      → (if t then refused 17 0 lent_room else accepted named ratio τ rss lent_room).answer ≡ Refused number line
-      → (if t then refused_line 17 0 else some) ≡ refused_line number line
-  unfolding if◌then◌else◌
+      → (when t then refused 17 0 lent_room else accepted named ratio τ rss lent_room).answer ≡ Refused number line
+      → (when t then refused_line 17 0 else some) ≡ refused_line number line
+  unfolding when◌then◌else◌
   by_room true τ rss some number line h = ap line_of h
   by_room false τ rss some number line h = let z : ◌≡◌ {A = ℕ} 0 1 = cc in absurd (omega arith)
 
@@ -74,19 +74,19 @@ module _ (text : Time → List Result → List ℕ) (deck : List ℕ) (named rat
       by_room ((block_count rss <? named) || (length rss <? ratio)) τ rss _ number line (rw (room-named named ratio τ rss (done_fits deck e)) at h)
 
   by_length : (long : Bool) (number line : ℕ)
-      → (if long then refused 2 0 lent_room else settled named ratio lent_room (worked deck)).answer ≡ Refused number line
-      → (if long then refused_line 2 0 else shown_by text named ratio (worked deck)) ≡ refused_line number line
-  unfolding if◌then◌else◌
+      → (when long then refused 2 0 lent_room else settled named ratio lent_room (worked deck)).answer ≡ Refused number line
+      → (when long then refused_line 2 0 else shown_by text named ratio (worked deck)) ≡ refused_line number line
+  unfolding when◌then◌else◌
   by_length true number line h = ap line_of h
   by_length false number line h = by_work (worked deck) refl number line h
 
   pub refused-shown : (number line : ℕ) → (outcome deck named ratio lent_room).answer ≡ Refused number line → shown text deck named ratio ≡ refused_line number line
-  unfolding outcome shown if◌then◌else◌
+  unfolding outcome shown when◌then◌else◌
   refused-shown number line h = by_length (deck_size <? length deck) number line h
 
 -- ACCEPTED. A number that is named is one of those there are.
-number_by : (t : Bool) (named count : ℕ) → (named =? 0) ≡ t → named ≤ count → 0 < count → (0 < (if t then count else named)) × ((if t then count else named) ≤ count)
-unfolding if◌then◌else◌
+number_by : (t : Bool) (named count : ℕ) → (named =? 0) ≡ t → named ≤ count → 0 < count → (0 < (when t then count else named)) × ((when t then count else named) ≤ count)
+unfolding when◌then◌else◌
 number_by true named count e few some = (some, omega arith)
 number_by false named count e few some = let other = eqb-false named 0 e in (positive named other, few)
   where
@@ -136,7 +136,7 @@ module _ (deck : List ℕ) (named ratio : ℕ) where
   module _ (text : Time → List Result → List ℕ) where
     pub accepted-shown : {nq blocks ratios : ℕ} (n : Named deck named ratio nq blocks ratios)
         → shown text deck named ratio ≡ text (under (ratio_at (place_of ratio (length n.results)) n.time) n.time) (named_ratio ratio n.results)
-    unfolding shown if◌then◌else◌
+    unfolding shown when◌then◌else◌
     accepted-shown n = rw (le-ltb deck_size (length deck) n.passed.short, n.done, n.there)
 
 -- BY THE ANSWER OF THE ENGINE

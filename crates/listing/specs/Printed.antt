@@ -8,7 +8,7 @@ use Rattle.std.specs.Prelude.{ℕ, zero, suc, ◌+◌, ◌-◌, ◌*◌, ◌≤�
 use Rattle.std.proofs.Math.Nat.{mul-le-mul_left}
 use Rattle.std.proofs.Common.{arith}
 use borrow.Author.Tests.{le-ltb}
-use Rattle.meaning.specs.Words.{◌<?◌, if◌then◌else◌}
+use Rattle.meaning.specs.Words.{◌<?◌, when◌then◌else◌}
 use Rattle.meaning.specs.Blocks.{Time, or_whole}
 use Rattle.meaning.specs.Results.{Result}
 use Rattle.meaning.specs.Run.{Worked, Stopped, Done, worked, block_count, record_bytes, Lent, Answer, Accepted, Refused, Outcome, refused, no_room, settled, outcome, work_size, deck_size, most_blocks}
@@ -85,7 +85,7 @@ module _ (τ : Time) (rss : List (List Result)) (f : Fitting τ rss) where
       )
 
 settled_prints : (deck : List ℕ) (w : Worked) → worked deck ≡ w → Prints (listing_by w) (listed_in w) (settled 0 0 lent_room w)
-unfolding if◌then◌else◌
+unfolding when◌then◌else◌
 settled_prints deck (Stopped number line) e = record { same = refl; few = tt }
 settled_prints deck (Done τ rss) e =
     let f = done_fits deck e in
@@ -94,13 +94,13 @@ settled_prints deck (Done τ rss) e =
 
 -- a deck that is too long is refused before its ratios are read
 by_length : (deck : List ℕ) (long : Bool) (ratios : List ℕ) → (long ≡ false → listed_in (worked deck) ≡ ratios)
-    → Prints (if long then refused_line 2 0 else listing_by (worked deck)) ratios (if long then refused 2 0 lent_room else settled 0 0 lent_room (worked deck))
-unfolding if◌then◌else◌
+    → Prints (when long then refused_line 2 0 else listing_by (worked deck)) ratios (when long then refused 2 0 lent_room else settled 0 0 lent_room (worked deck))
+unfolding when◌then◌else◌
 by_length deck true ratios listed = record { same = refl; few = tt }
 by_length deck false ratios listed = rw (← listed refl) (settled_prints deck (worked deck) refl)
 
 pub run_prints : (deck : List ℕ) → Prints (listing deck) (listed_of deck work_size) (outcome deck 0 0 lent_room)
-unfolding outcome listing if◌then◌else◌
+unfolding outcome listing when◌then◌else◌
 run_prints deck = by_length deck (deck_size <? length deck) (listed_of deck work_size) (λ e. listed_sized deck work_size (rw e))
 
 -- by the answer of the engine

@@ -1,7 +1,7 @@
 -- What a block of each kind that was read and is not refused gives to the functions of water.
 use Rattle.std.specs.Prelude.{ℕ, ◌+◌, ◌*◌, ◌≤◌, ◌≡◌, refl, Bool, true, false, length}
 use Rattle.std.proofs.Common.{ap, ◌∙◌, arith}
-use Rattle.meaning.specs.Words.{if◌then◌else◌}
+use Rattle.meaning.specs.Words.{when◌then◌else◌}
 use Rattle.meaning.specs.Records.{PI, UI, HC, PB, table}
 use Rattle.meaning.specs.Water.{ten_thousandth}
 use Rattle.meaning.specs.Blocks.{Time, Block, Kind, Confluence, takes_by, combined, is_given, card_of, storm_total, rain_values, unit_ordinates}
@@ -19,8 +19,8 @@ use Rattle.stack.specs.Kinds.{block_storm}
 use Rattle.shaping.specs.Limits.{CardsWithin}
 use Rattle.shaping.specs.Shapes.{Shaped, shaped_passes}
 
-total_up : (t : Bool) (total : Depth) → total.0 ≤ 60_000_000 → TotalWithin (if t then Given total else NotGiven)
-unfolding if◌then◌else◌
+total_up : (t : Bool) (total : Depth) → total.0 ≤ 60_000_000 → TotalWithin (when t then Given total else NotGiven)
+unfolding when◌then◌else◌
 total_up true total up = up
 total_up false total up = tt
 
@@ -41,7 +41,7 @@ pub room_for_one : {k : Kind} (τ : Time) (b : Block) (d words : ℕ) → takes_
 room_for_one τ b d words none s f = let p = shaped_passes τ b d s in record { deep = omega (arith, p.room, none); ordinates = f.ordinates; enough = f.enough }
 
 pub joins_read : (τ : Time) (b : Block) (d : ℕ) → CardsWithin b → length b.cards ≡ length table → Shaped Confluence τ b d → Added (combined b) d
-unfolding if◌then◌else◌
+unfolding when◌then◌else◌
 joins_read τ b d cards long s =
     let given = kind_must b Confluence HC refl (λ e. omega arith) (omega arith) s.is in
     record { some = (cards HC).low given 0 (omega arith); few = (cards HC).high 0; held = (shaped_passes τ b d s).enough }

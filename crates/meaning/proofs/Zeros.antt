@@ -1,7 +1,7 @@
 -- Document 02, CR 7, in figures: decks that differ in trailing zeros alone, by the figures of specs/Zeros.antt.
 use Rattle.std.specs.Prelude.{◌≡◌}
 use Rattle.std.proofs.Common.{sym, ap, ◌∙◌}
-use Rattle.meaning.specs.Words.{if◌then◌else◌}
+use Rattle.meaning.specs.Words.{when◌then◌else◌}
 use Rattle.meaning.specs.Run.{worked}
 use Rattle.meaning.specs.Listing.{listing_by, listing}
 use Rattle.meaning.specs.Pond.{pond}
@@ -18,5 +18,5 @@ pub same_storm : worked zeroed_storm ≡ worked storm
 same_storm = storm_with_zeros ∙ sym storm_without
 
 pub same_listing : listing zeroed ≡ listing pond
-unfolding listing if◌then◌else◌
+unfolding listing when◌then◌else◌
 same_listing = ap listing_by same_worked

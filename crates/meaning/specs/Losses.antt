@@ -1,6 +1,6 @@
 -- Document 02, CR 2, in figures: what an initial loss that must be filled takes of the rain, beside what the rule of document 01 took. One table, by computation.
 use Rattle.std.specs.Prelude.{ℕ, ◌+◌, ◌-◌, min, refl, List, [], ◌∷◌, ◌++◌}
-use Rattle.meaning.specs.Words.{bytes, ◌≤?◌, if◌then◌else◌}
+use Rattle.meaning.specs.Words.{bytes, ◌≤?◌, when◌then◌else◌}
 use Rattle.meaning.specs.Run.{worked}
 use Rattle.meaning.specs.Computing.{computing}
 use Rattle.meaning.specs.Pond.{Row, row, Agree, loss_in, excess_in}
@@ -11,7 +11,7 @@ use Rattle.meaning.specs.Pond.{Row, row, Agree, loss_in, excess_in}
 abbrev pub former_after : (initial uniform before : ℕ) → List ℕ → List ℕ
 former_after initial uniform before [] = []
 former_after initial uniform before (rain ∷ rains) =
-    (rain - (if before + rain ≤? initial then rain else min rain uniform)) ∷ former_after initial uniform (before + rain) rains
+    (rain - (when before + rain ≤? initial then rain else min rain uniform)) ∷ former_after initial uniform (before + rain) rains
 
 abbrev pub former_excess : (initial uniform : ℕ) → List ℕ → List ℕ
 former_excess initial uniform rains = former_after initial uniform 0 rains

@@ -1,6 +1,6 @@
 -- Document 02, CR 6: ponds, level-pool routing by modified Puls (document 000, 3.6.3).
 use Rattle.std.specs.Prelude.{ℕ, ◌+◌, ◌-◌, ◌*◌, ◌/◌, Bool, false, ◌||◌, not, List, [], ◌∷◌, map, length, get_or}
-use Rattle.meaning.specs.Words.{◌=?◌, ◌≤?◌, ◌<?◌, if◌then◌else◌}
+use Rattle.meaning.specs.Words.{◌=?◌, ◌≤?◌, ◌<?◌, when◌then◌else◌}
 use Rattle.meaning.specs.Water.{hundredth}
 
 -- A ROW of a pond's table. V is SV in hundredths times 600,000, Q the outflow in flow units.
@@ -49,7 +49,7 @@ between m row next w = row.q + (next.q - row.q) * (w - w_of m row) / (w_of m nex
 -- and from a row on. (Above the last row, where the deck is refused by 20, it counts as the last row's.)
 abbrev pub outflow_from : (m : ℕ) → PoolRow → List PoolRow → (w : ℕ) → ℕ
 outflow_from m row [] w = row.q
-outflow_from m row (next ∷ rows) w = if w ≤? w_of m next then between m row next w else outflow_from m next rows w
+outflow_from m row (next ∷ rows) w = when w ≤? w_of m next then between m row next w else outflow_from m next rows w
 
 abbrev pub outflow_at : (m : ℕ) → List PoolRow → (w : ℕ) → ℕ
 outflow_at m [] w = 0

@@ -1,7 +1,7 @@
 -- Why a line is refused by 6 or by 7: the first field that is, its rule and what stands in it, or the name of a block. Of a line by itself, in the form that is in force.
 use Rattle.std.specs.Prelude.{ℕ, ◌+◌, Bool, true, false, List, [], ◌∷◌, ◌++◌}
 use Prim.Native.String.{String}
-use Rattle.meaning.specs.Words.{◌<?◌, if◌then◌else◌, bytes}
+use Rattle.meaning.specs.Words.{◌<?◌, when◌then◌else◌, bytes}
 use Rattle.meaning.specs.Lines.{lf, blank, lines_of}
 use Rattle.meaning.specs.Fields.{Form, fields_of, name_in}
 use Rattle.meaning.specs.Numbers.{Number, NoNumber, Decimal, number_of}
@@ -17,7 +17,7 @@ rule_text word most low high = bytes word ++ (blank ∷ whole most) ++ (blank �
 abbrev pub number_reason : (places low high : ℕ) → Number → List ℕ
 number_reason places low high NoNumber = rule_text "NUMBER" places low high
 number_reason places low high (Decimal minus digits left) =
-    if places <? left then rule_text "PLACES" places low high ++ (blank ∷ whole left) else rule_text "LIMITS" places low high
+    when places <? left then rule_text "PLACES" places low high ++ (blank ∷ whole left) else rule_text "LIMITS" places low high
 
 -- What is wrong with a field by its rule. (A field that is not read is never refused.)
 unfoldable pub field_reason : Rule → List ℕ → List ℕ
@@ -33,7 +33,7 @@ field_line k rule f = bytes "FIELD " ++ whole k ++ (blank ∷ field_reason rule 
 -- The first field that meets a test, from field k on, counted from 0.
 unfoldable pub first_field : (Rule → List ℕ → Bool) → List Rule → ℕ → List (List ℕ) → List ℕ
 first_field test rules k [] = []
-first_field test rules k (f ∷ fs) = if test (rule_at rules k) f then field_line (k + 1) (rule_at rules k) f else first_field test rules (k + 1) fs
+first_field test rules k (f ∷ fs) = when test (rule_at rules k) f then field_line (k + 1) (rule_at rules k) f else first_field test rules (k + 1) fs
 
 -- Refusal 6 at a field, or else refusal 7.
 abbrev pub refused_by : (six : Bool) → Rule → List ℕ → Bool

@@ -1,7 +1,7 @@
 -- Document 02, CR 5: the hand sheet of a runoff block. One interval's excess is spread over all the unit ordinates, then the next interval's; the sums of the columns
 -- are the ordinates.
 use Rattle.std.specs.Prelude.{ℕ, zero, suc, ◌+◌, ◌-◌, ◌*◌, ◌/◌, ◌%◌, Bool, ◌&&◌, List, [], ◌∷◌, ◌++◌, length, get_or}
-use Rattle.meaning.specs.Words.{◌=?◌, ◌≤?◌, ◌<?◌, if◌then◌else◌, bytes}
+use Rattle.meaning.specs.Words.{◌=?◌, ◌≤?◌, ◌<?◌, when◌then◌else◌, bytes}
 use Rattle.meaning.specs.Lines.{lf}
 use Rattle.meaning.specs.Water.{list_from, sum_to, share}
 use Rattle.meaning.specs.Blocks.{Time, Block, opened, kind_number, kind_of, unit_ordinates, rain, loss, excess}
@@ -31,7 +31,7 @@ share_at s k i = share s.units s.excesses i (i - k)
 
 -- What interval k brings to ordinate i; and THE SUM of a column.
 abbrev pub brings : Sheet → (i k : ℕ) → ℕ
-brings s i k = if falls s k i then share_at s k i else 0
+brings s i k = when falls s k i then share_at s k i else 0
 
 abbrev pub column_sum : Sheet → ℕ → ℕ
 column_sum s i = sum_to (brings s i) s.intervals
@@ -84,7 +84,7 @@ head_line intervals = bytes "interval,rain,loss,excess" ++ cells_from (λ (i : �
 
 -- A row: the interval's number, from 1, its rain, its loss and its excess, then its shares by ordinate. Where no share falls the cell is empty.
 abbrev pub share_text : Measure → Sheet → (k i : ℕ) → List ℕ
-share_text m s k i = if falls s k i then flow_text m (share_at s k i) else []
+share_text m s k i = when falls s k i then flow_text m (share_at s k i) else []
 
 unfoldable pub row_line : Measure → Sheet → (k : ℕ) → List ℕ
 row_line m s k =
@@ -101,7 +101,7 @@ row_line m s k =
 -- A row for each interval with excess: those of n intervals, from the one at k on.
 abbrev pub rows_from : Measure → Sheet → (k n : ℕ) → List ℕ
 rows_from m s k zero = []
-rows_from m s k (suc n) = (if 0 <? get_or s.excesses k 0 then row_line m s k else []) ++ rows_from m s (k + 1) n
+rows_from m s k (suc n) = (when 0 <? get_or s.excesses k 0 then row_line m s k else []) ++ rows_from m s (k + 1) n
 
 -- The last row.
 unfoldable pub sum_line : Measure → (sums : List ℕ) → (intervals : ℕ) → List ℕ
@@ -119,7 +119,7 @@ unfoldable pub no_sheet_line : (kind : ℕ) → List ℕ
 no_sheet_line kind = bytes "NO SHEET " ++ whole kind ++ (lf ∷ [])
 
 abbrev pub sheet_text : Time → Block → List ℕ
-sheet_text τ b = if kind_number (kind_of b) =? 1 then table_of Units τ b ++ table_of Customary τ b else no_sheet_line (kind_number (kind_of b))
+sheet_text τ b = when kind_number (kind_of b) =? 1 then table_of Units τ b ++ table_of Customary τ b else no_sheet_line (kind_number (kind_of b))
 
 -- THE SHEET OF A DECK, for the named block under the named ratio.
 abbrev pub named_block : ℕ → List Result → Block

@@ -3,7 +3,7 @@
 use Rattle.std.specs.Prelude.{◌≡◌, false, List, ℕ, ◌≤◌}
 use Rattle.std.proofs.Math.ListN.{length}
 use borrow.Author.Tests.{le-ltb}
-use Rattle.meaning.specs.Words.{if◌then◌else◌}
+use Rattle.meaning.specs.Words.{when◌then◌else◌}
 use Rattle.meaning.specs.Blocks.{Time, ratios_of, Block}
 use Rattle.meaning.specs.Results.{Result}
 use Rattle.meaning.specs.Run.{Done, worked, Lent, record_bytes, accepted, no_room, outcome, work_size, deck_size}
@@ -24,6 +24,6 @@ module _ (τ : Time) (bs : List Block) (named ratio : ℕ) (lent : Lent) where
 module _ (deck : List ℕ) (named ratio : ℕ) (lent : Lent) where
   pub outcome_done : {τ : Time} {bs : List Block} (rss : List (List Result)) → length deck ≤ deck_size → Enough τ bs named ratio lent → Full τ bs rss → worked deck ≡ Done τ rss
       → outcome deck named ratio lent ≡ accepted named ratio τ rss lent
-  unfolding outcome if◌then◌else◌
+  unfolding outcome when◌then◌else◌
   outcome_done {τ} {bs} rss short room full w =
       rw (le-ltb lent.work work_size room.work, le-ltb deck_size (length deck) short, w, full.blocks, full.ratios, room_enough τ bs named ratio lent room)

@@ -6,7 +6,7 @@ use Rattle.std.specs.Prelude.{ℕ, ◌*◌, ◌/◌, ◌≤◌, ◌<◌, ◌≡�
 use Rattle.std.proofs.Common.{sym, ap, ◌∙◌, ⊎_elim, arith, lt-ltb}
 use mathlib.Core.List.{List, [], ◌∷◌}
 use Rattle.std.proofs.lemmas.Bool.{eqb-false}
-use Rattle.meaning.specs.Words.{if◌then◌else◌}
+use Rattle.meaning.specs.Words.{when◌then◌else◌}
 use Rattle.meaning.specs.Records.{PB}
 use Rattle.meaning.specs.Water.{ten_thousandth, sum_of, cut_of}
 use Rattle.meaning.specs.Blocks.{Time, under, Block, is_given, card_of, storm_total, listed_rain, storm_rain, rain, patternless}
@@ -25,7 +25,7 @@ pub record AddsUp (σ : Time) (b : Block) : Type 0 where
 
 -- where PB is given, the rain of the storm is its total cut by what PI lists
 cut-storm : (τ : Time) (b : Block) → is_given (card_of PB b) ≡ true → storm_rain τ b ≡ cut_of (total b) (sum_of (listed_rain τ b)) (listed_rain τ b)
-unfolding storm_rain if◌then◌else◌
+unfolding storm_rain when◌then◌else◌
 cut-storm τ b given = rw given
 
 no_storm : (τ : Time) (b : Block) → is_given (card_of PB b) ≡ true → storm_total b ≡ 0 → storm_rain τ b ≡ replicate (length (listed_rain τ b)) 0

@@ -7,7 +7,7 @@ use mathlib.Core.List.{List, [], ◌∷◌, ◌++◌, append-nil, append_assoc}
 use borrow.Author.Tests.{ne_eqb}
 use Rattle.std.proofs.Math.ListN.{length, take, drop, get_or, length-drop, drop_of_length-le}
 use Rattle.std.proofs.Math.Seq.{drop-cons, split_at, length-take-le}
-use Rattle.meaning.specs.Words.{if◌then◌else◌}
+use Rattle.meaning.specs.Words.{when◌then◌else◌}
 use Rattle.meaning.specs.Fields.{trim_end}
 use Rattle.meaning.specs.Numbers.{NoNumber, Decimal, is_digit, is_zero, before_point, behind_point, all_digits, read_on, fraction_left, decimal_of}
 use Rattle.sequences.specs.Choices.{taken, in_range}
@@ -24,22 +24,22 @@ digits-every = is_every is_digit all_digits refl (λ b l. refl)
 
 -- no digit is a point
 before_run : (s : List ℕ) → before_point s ≡ take (run is_digit s) s ++ before_point (drop (run is_digit s) s)
-unfolding run before_point if◌then◌else◌
+unfolding run before_point when◌then◌else◌
 before_run [] = refl
 before_run (b ∷ s) = go (is_digit b) refl (before_run s)
   where
     go : (t : Bool) → is_digit b ≡ t → before_point s ≡ take (run is_digit s) s ++ before_point (drop (run is_digit s) s)
-        → before_point (b ∷ s) ≡ take (if t then suc (run is_digit s) else 0) (b ∷ s) ++ before_point (drop (if t then suc (run is_digit s) else 0) (b ∷ s))
+        → before_point (b ∷ s) ≡ take (when t then suc (run is_digit s) else 0) (b ∷ s) ++ before_point (drop (when t then suc (run is_digit s) else 0) (b ∷ s))
     go true e ih = rw (test_tells is_digit b 0x2E e refl) (ap (λ (l : List ℕ). b ∷ l) ih)
     go false e ih = refl
 
 behind-run : (s : List ℕ) → behind_point s ≡ behind_point (drop (run is_digit s) s)
-unfolding run behind_point if◌then◌else◌
+unfolding run behind_point when◌then◌else◌
 behind-run [] = refl
 behind-run (b ∷ s) = go (is_digit b) refl (behind-run s)
   where
     go : (t : Bool) → is_digit b ≡ t → behind_point s ≡ behind_point (drop (run is_digit s) s)
-        → behind_point (b ∷ s) ≡ behind_point (drop (if t then suc (run is_digit s) else 0) (b ∷ s))
+        → behind_point (b ∷ s) ≡ behind_point (drop (when t then suc (run is_digit s) else 0) (b ∷ s))
     go true e ih = rw (test_tells is_digit b 0x2E e refl) ih
     go false e ih = refl
 
@@ -57,7 +57,7 @@ decimal_digits minus s ds ws ls e f g h = rw (e, f, g, digits-every, h)
 
 decimal_none : (minus : Bool) (s xs : List ℕ) (b : ℕ) (ys : List ℕ) → before_point s ++ behind_point s ≡ xs ++ (b ∷ ys) → is_digit b ≡ false
     → NoNumber ≡ decimal_of minus s
-unfolding decimal_of if◌then◌else◌
+unfolding decimal_of when◌then◌else◌
 decimal_none minus s xs b ys e h = rw (e, digits-every, not_every is_digit xs b ys h)
 
 module _ (minus : Bool) (s : List ℕ) (n : ℕ) (first : n ≡ run is_digit s) where
@@ -82,7 +82,7 @@ module _ (minus : Bool) (s : List ℕ) (n : ℕ) (first : n ≡ run is_digit s) 
 
   module _ (more : n < length s) where
     pub no_point : (get_or s n 0 ≡ 0x2E → ⊥) → NoNumber ≡ decimal_of minus s
-    unfolding before_point behind_point if◌then◌else◌
+    unfolding before_point behind_point when◌then◌else◌
     no_point h =
         let t = drop (suc n) s in
         let z : drop n s ≡ get_or s n 0 ∷ t = drop-cons s n 0 more in
@@ -92,11 +92,11 @@ module _ (minus : Bool) (s : List ℕ) (n : ℕ) (first : n ≡ run is_digit s) 
 
     module _ (point : get_or s n 0 ≡ 0x2E) where
       whole_run : before_point s ≡ take n s
-      unfolding before_point if◌then◌else◌
+      unfolding before_point when◌then◌else◌
       whole_run = rw (cut_before, drop-cons s n 0 more, point, append-nil)
 
       last_run : behind_point s ≡ drop (n + 1) s
-      unfolding behind_point if◌then◌else◌
+      unfolding behind_point when◌then◌else◌
       last_run = rw (add-one, cut-behind, drop-cons s n 0 more, point)
 
       abbrev left : List ℕ

@@ -3,33 +3,33 @@ use Rattle.std.specs.Prelude.{ℕ, suc, ◌+◌, ◌≤◌, ◌<◌, ◌≡◌, 
 use Rattle.std.proofs.Common.{sym, ◌∙◌, ap, arith}
 use Rattle.std.proofs.Math.Bool.{and-false}
 use Rattle.std.proofs.lemmas.Bool.{lt-leb}
-use Rattle.meaning.specs.Words.{◌=?◌, ◌≤?◌, if◌then◌else◌}
+use Rattle.meaning.specs.Words.{◌=?◌, ◌≤?◌, when◌then◌else◌}
 use Rattle.meaning.specs.Numbers.{NoNumber, Decimal, is_sign, is_point, unsigned, before_point, behind_point, all_digits, decimal_of, number_of}
 use Rattle.numbers.specs.Reading.{sign_length}
 
 -- a point takes one byte at most
 all_but_one : (s : List ℕ) → length s ≤ length (before_point s ++ behind_point s) + 1
-unfolding before_point behind_point if◌then◌else◌
+unfolding before_point behind_point when◌then◌else◌
 all_but_one [] = omega arith
 all_but_one (b ∷ s) = go (is_point b) (all_but_one s)
   where
     go : (t : Bool) → length s ≤ length (before_point s ++ behind_point s) + 1
-        → suc (length s) ≤ length ((if t then [] else b ∷ before_point s) ++ (if t then s else behind_point s)) + 1
+        → suc (length s) ≤ length ((when t then [] else b ∷ before_point s) ++ (when t then s else behind_point s)) + 1
     go true ih = omega arith
     go false ih = omega arith
 
 long_decimal : (minus : Bool) (s : List ℕ) → 10 < length s → NoNumber ≡ decimal_of minus s
-unfolding decimal_of if◌then◌else◌
+unfolding decimal_of when◌then◌else◌
 long_decimal minus s h =
     let ds = before_point s ++ behind_point s in
     let k : 9 < length ds = omega (arith, all_but_one s) in
     rw (lt-leb (length ds) 9 k, and-false (all_digits ds && (1 ≤? length ds)))
 
 pub sign_one : (b : ℕ) → sign_length b ≤ 1
-unfolding sign_length if◌then◌else◌
+unfolding sign_length when◌then◌else◌
 sign_one b = go (is_sign b)
   where
-    go : (t : Bool) → (if t then 1 else 0) ≤ 1
+    go : (t : Bool) → (when t then 1 else 0) ≤ 1
     go true = omega arith
     go false = omega arith
 
@@ -39,10 +39,10 @@ blank_number [] h = refl
 blank_number (b ∷ f) h = absurd (let k : suc (length f) < 1 = h in omega arith)
 
 unsigned-drop : (b : ℕ) (s : List ℕ) → unsigned (b ∷ s) ≡ drop (sign_length b) (b ∷ s)
-unfolding unsigned sign_length if◌then◌else◌
+unfolding unsigned sign_length when◌then◌else◌
 unsigned-drop b s = go (is_sign b)
   where
-    go : (t : Bool) → (if t then s else b ∷ s) ≡ drop (if t then 1 else 0) (b ∷ s)
+    go : (t : Bool) → (when t then s else b ∷ s) ≡ drop (when t then 1 else 0) (b ∷ s)
     go true = refl
     go false = refl
 

@@ -7,7 +7,7 @@ use Rattle.std.proofs.Common.{sym, ◌∙◌, ap, arith, length-append}
 use Rattle.std.proofs.Math.Bool.{and-true}
 use mathlib.Core.List.{List, [], ◌∷◌, ◌++◌, append-nil, append_assoc}
 use borrow.Author.Tests.{le-leb}
-use Rattle.meaning.specs.Words.{if◌then◌else◌}
+use Rattle.meaning.specs.Words.{when◌then◌else◌}
 use Rattle.meaning.specs.Fields.{trim_end}
 use Rattle.meaning.specs.Numbers.{NoNumber, Decimal, is_digit, is_zero, before_point, behind_point, all_digits, read_on, fraction_left, decimal_of}
 use Rattle.sequences.specs.Choices.{both_hold}
@@ -17,14 +17,14 @@ use Rattle.sequences.specs.Trimming.{trim_pass}
 -- digits, the point, and what stands behind it
 module _ (rest : List ℕ) where
   before-point : (whole : List ℕ) → all_digits whole ≡ true → before_point (whole ++ (0x2E ∷ rest)) ≡ whole
-  unfolding before_point all_digits if◌then◌else◌
+  unfolding before_point all_digits when◌then◌else◌
   before-point [] h = refl
   before-point (d ∷ ds) h =
       let both = both_hold (is_digit d) (all_digits ds) h in
       rw (test_tells is_digit d 0x2E both.0 refl) (ap (λ (l : List ℕ). d ∷ l) (before-point ds both.1))
 
   behind-point : (whole : List ℕ) → all_digits whole ≡ true → behind_point (whole ++ (0x2E ∷ rest)) ≡ rest
-  unfolding behind_point all_digits if◌then◌else◌
+  unfolding behind_point all_digits when◌then◌else◌
   behind-point [] h = refl
   behind-point (d ∷ ds) h =
       let both = both_hold (is_digit d) (all_digits ds) h in
@@ -42,7 +42,7 @@ module _ (minus : Bool) (whole : List ℕ) (digits : all_digits whole ≡ true) 
 
   by_parts : (fraction : List ℕ) → 1 ≤ length (whole ++ fraction) → length (whole ++ fraction) ≤ 9
       → decimal_of minus (pointed fraction)
-      ≡ (if all_digits (whole ++ fraction) then Decimal minus (read_on 0 (whole ++ trim_end is_zero fraction)) (length (trim_end is_zero fraction)) else NoNumber)
+      ≡ (when all_digits (whole ++ fraction) then Decimal minus (read_on 0 (whole ++ trim_end is_zero fraction)) (length (trim_end is_zero fraction)) else NoNumber)
   unfolding decimal_of fraction_left
   by_parts fraction some few = rw (before-point fraction whole digits, behind-point fraction whole digits, le-leb 1 _ some, le-leb _ 9 few, and-true, and-true)
 

@@ -1,6 +1,6 @@
 -- What the answers mean, and what the runs of digits in a number are.
 use Rattle.std.specs.Prelude.{ℕ, ◌+◌, Bool, ◌&&◌, List, take, drop}
-use Rattle.meaning.specs.Words.{◌≤?◌, if◌then◌else◌}
+use Rattle.meaning.specs.Words.{◌≤?◌, when◌then◌else◌}
 use Rattle.meaning.specs.Numbers.{is_sign, is_digit, read_on}
 use Rattle.meaning.specs.Numbers as meaning
 use Rattle.sequences.specs.Runs.{run}
@@ -13,7 +13,7 @@ number_is NoNumber = meaning.NoNumber
 number_is (Decimal minus digits places) = meaning.Decimal minus digits places
 
 unfoldable pub sign_length : ℕ → ℕ
-sign_length b = if is_sign b then 1 else 0
+sign_length b = when is_sign b then 1 else 0
 
 -- the digits from `at` on, read on behind a number
 abbrev pub digits_from : List ℕ → ℕ → ℕ → Digits
@@ -25,4 +25,4 @@ digits_from s at start =
 
 -- a number of so many digits: one at least and nine at most
 unfoldable pub counted : Bool → ℕ → ℕ → ℕ → meaning.Number
-counted minus digits count places = if (1 ≤? count) && (count ≤? 9) then meaning.Decimal minus digits places else meaning.NoNumber
+counted minus digits count places = when (1 ≤? count) && (count ≤? 9) then meaning.Decimal minus digits places else meaning.NoNumber

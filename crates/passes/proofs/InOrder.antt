@@ -2,7 +2,7 @@
 --     deck-begun    a deck fails before its first block, or starts as many runs as it has ratios, and goes on in order
 use Rattle.std.specs.Prelude.{ℕ, zero, suc, ◌+◌, ◌<◌, refl, Bool, true, false, not, List, [], ◌∷◌}
 use Rattle.std.proofs.Common.{inl, inr, arith}
-use Rattle.meaning.specs.Words.{◌=?◌, ◌≤?◌, if◌then◌else◌, met}
+use Rattle.meaning.specs.Words.{◌=?◌, ◌≤?◌, when◌then◌else◌, met}
 use Rattle.meaning.specs.Lines.{lines_of}
 use Rattle.meaning.specs.Fields.{Form, Fixed}
 use Rattle.meaning.specs.Blocks.{Time, Block}
@@ -20,12 +20,12 @@ after-closing τ zero at line b next h a = (h, a)
 after-closing τ (suc shape) at line b next h a = inr (inl h)
 
 after-many : (τ : Time) (t : Bool) (line : ℕ) (next : Script) → After τ line next → After τ line (failing (met t 14) line next)
-unfolding rank_of if◌then◌else◌
+unfolding rank_of when◌then◌else◌
 after-many τ true line next a = inr (inr (refl, omega arith))
 after-many τ false line next a = a
 
 after-end : (t : Bool) (line : ℕ) (τ : Time) → After τ line (failing (met t 15) line (Ends τ))
-unfolding rank_of if◌then◌else◌
+unfolding rank_of when◌then◌else◌
 after-end true line τ = inr (inr (refl, omega arith))
 after-end false line τ = refl
 

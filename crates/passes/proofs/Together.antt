@@ -5,7 +5,7 @@ use Rattle.std.specs.Prelude.{ℕ, zero, suc, ◌+◌, ◌-◌, ◌≤◌, ◌<�
 use Rattle.std.proofs.Common.{sym, ap, ◌∙◌, inl, inr, add-one, arith, take-suc, take_all, eq-eqb, ne_eqb, le-leb, lt-ltb, le-ltb}
 use Rattle.std.proofs.lemmas.List.{map-append}
 use Rattle.std.proofs.lemmas.Bool.{lt-leb}
-use Rattle.meaning.specs.Words.{◌<?◌, if◌then◌else◌, met, first}
+use Rattle.meaning.specs.Words.{◌<?◌, when◌then◌else◌, met, first}
 use Rattle.meaning.specs.Water.{flow_limit}
 use Rattle.meaning.specs.Blocks.{Time, ratios_of, Block, Held, made, overtops}
 use Rattle.meaning.specs.Results.{Result, peak_of}
@@ -16,8 +16,8 @@ use Rattle.passes.specs.InOrder.{Past, After, Begun}
 use Rattle.passes.proofs.InOrder.{deck-begun}
 use Rattle.passes.specs.Together.{some_ratio, ratio-at}
 
-if_same : {A : Type 0} (t : Bool) (a : A) → (if t then a else a) ≡ a
-unfolding if◌then◌else◌
+if_same : {A : Type 0} (t : Bool) (a : A) → (when t then a else a) ≡ a
+unfolding when◌then◌else◌
 if_same true a = refl
 if_same false a = refl
 
@@ -29,7 +29,7 @@ abbrev OfFlow : ℕ → Type 0
 OfFlow flow = rank_of flow ≡ 13
 
 first_past : (flow line number line' : ℕ) → OfFlow flow → 0 < line → Past line number line' → (comes_first flow line number line' ≡ true) × (comes_first number line' flow line ≡ false)
-unfolding comes_first if◌then◌else◌
+unfolding comes_first when◌then◌else◌
 first_past flow line number line' r h (inl z) =
     let a : line ≡ line' → ⊥ = λ e. omega arith in
     let b : line' ≡ line → ⊥ = λ e. omega arith in
@@ -50,12 +50,12 @@ abbrev Behind : ℕ → Worked → Type 0
 Behind line w = (flow : ℕ) → OfFlow flow → (sooner (Stopped flow line) w ≡ Stopped flow line) × (sooner w (Stopped flow line) ≡ Stopped flow line)
 
 past_behind : (line number line' : ℕ) → 0 < line → Past line number line' → Behind line (Stopped number line')
-unfolding if◌then◌else◌
+unfolding when◌then◌else◌
 past_behind line number line' h p flow r = let f = first_past flow line number line' r h p in (rw f.0, rw f.1)
 
 -- of equal rank, so of two the first is answered
 flow_same : (m n line : ℕ) → OfFlow m → OfFlow n → sooner (Stopped m line) (Stopped n line) ≡ Stopped m line
-unfolding comes_first if◌then◌else◌
+unfolding comes_first when◌then◌else◌
 flow_same m n line y z = rw (eq-eqb line line refl, y, z)
 
 -- A flow's refusal, or nothing: what the flows of runs answer where a block closes.
@@ -72,7 +72,7 @@ first_or_not zero n y z = z
 first_or_not (suc m) n y z = y
 
 flow_or_not : (τ : Time) (b : Block) (taken : Held) → FlowOrNot (flow_refusal τ b taken)
-unfolding flow_refusal rank_of if◌then◌else◌
+unfolding flow_refusal rank_of when◌then◌else◌
 flow_or_not τ b taken =
     let above = flow_limit <? peak_of (made τ b taken).flow in
     first_or_not (met (overtops τ b taken) 20) (met above 13) (met_or_not (overtops τ b taken) 20 refl) (met_or_not above 13 refl)

@@ -5,7 +5,7 @@
 use Rattle.std.specs.Prelude.{ℕ, zero, suc, ◌+◌, ◌-◌, ◌≤◌, ◌<◌, ◌≡◌, refl, Bool, true, false, List, [], ◌∷◌, map, length, take, get_or}
 use Rattle.std.proofs.Common.{sym, ap, ◌∙◌, ⊎_elim, add-one, arith, take-suc, take_all}
 use Rattle.std.proofs.lemmas.List.{map-append}
-use Rattle.meaning.specs.Words.{if◌then◌else◌}
+use Rattle.meaning.specs.Words.{when◌then◌else◌}
 use Rattle.meaning.specs.Blocks.{Time}
 use Rattle.meaning.specs.Results.{Result}
 use Rattle.meaning.specs.Run.{Only, Worked, Stopped, Done, worked_under, worked}
@@ -28,15 +28,15 @@ count-begun (Closes c line s) count b = absurd b
 pub count_some : (deck : List ℕ) → 0 < ratio_count deck
 count_some deck = count-begun (script_of deck) (ratio_count deck) (deck-begun deck)
 
-if_either : (t : Bool) (a b : Worked) (P : Worked → Type 0) → P a → P b → P (if t then a else b)
-unfolding if◌then◌else◌
+if_either : (t : Bool) (a b : Worked) (P : Worked → Type 0) → P a → P b → P (when t then a else b)
+unfolding when◌then◌else◌
 if_either true a b P p q = p
 if_either false a b P p q = q
 
 not_done : (number line : ℕ) (w : Worked) → w ≡ Stopped number line → IsDone w → ⊥
 not_done number line w e d = let f = d.2 in let z : ◌≡◌ {A = ℕ} 0 1 = cc in omega arith
 
-stopped_not : (t : Bool) (n l m k : ℕ) → IsDone (if t then Stopped n l else Stopped m k) → ⊥
+stopped_not : (t : Bool) (n l m k : ℕ) → IsDone (when t then Stopped n l else Stopped m k) → ⊥
 stopped_not t n l m k d = if_either t (Stopped n l) (Stopped m k) (λ (w : Worked). IsDone w → ⊥) (not_done n l _ refl) (not_done m k _ refl) d
 
 sooner_done : (w v : Worked) → IsDone (sooner w v) → IsDone w × IsDone v

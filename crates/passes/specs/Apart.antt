@@ -4,7 +4,7 @@
 --     ratio_count       how many ratios a deck has, so how many walks there are
 --     count-found      the same by the next event of the deck, as the code reads it
 use Rattle.std.specs.Prelude.{ℕ, zero, suc, ◌+◌, ◌≡◌, refl, Bool, true, false, List, [], ◌∷◌, ◌++◌, length}
-use Rattle.meaning.specs.Words.{◌=?◌, ◌≤?◌, ◌<?◌, if◌then◌else◌}
+use Rattle.meaning.specs.Words.{◌=?◌, ◌≤?◌, ◌<?◌, when◌then◌else◌}
 use Rattle.meaning.specs.Lines.{lines_of}
 use Rattle.meaning.specs.Fields.{Fixed}
 use Rattle.meaning.specs.Blocks.{ratios_of}
@@ -13,18 +13,18 @@ use Rattle.events.specs.NextEvent.{Found, Missing, Met, met_by, next_event}
 
 -- On one line the numbers are met in their order, but for 20: flows decide it, as they do 13, so it has the place of 13, before 14 and 15.
 unfoldable pub rank_of : (number : ℕ) → ℕ
-rank_of number = if number =? 20 then 13 else number
+rank_of number = when number =? 20 then 13 else number
 
 -- Of two refusals the first: the earlier line, on one line the smaller rank, and of equal ranks the first of the two. Line 0, that of 16, comes last.
 unfoldable pub comes_first : (number line number' line' : ℕ) → Bool
 comes_first number line number' line' =
-    if line =? line' then rank_of number ≤? rank_of number' else
-    if line =? 0 then false else
-    if line' =? 0 then true else
+    when line =? line' then rank_of number ≤? rank_of number' else
+    when line =? 0 then false else
+    when line' =? 0 then true else
     line <? line'
 
 abbrev pub sooner : Worked → Worked → Worked
-sooner (Stopped number line) (Stopped number' line') = if comes_first number line number' line' then Stopped number line else Stopped number' line'
+sooner (Stopped number line) (Stopped number' line') = when comes_first number line number' line' then Stopped number line else Stopped number' line'
 sooner (Stopped number line) (Done τ rss) = Stopped number line
 sooner (Done τ rss) (Stopped number line) = Stopped number line
 sooner (Done τ rss) (Done σ qss) = Done τ (rss ++ qss)

@@ -1,6 +1,6 @@
 -- Walks apart, in figures: how many there are, which refusal of them comes first, and what they find. A table for each, by computation.
 use Rattle.std.specs.Prelude.{ℕ, ◌-◌, refl, Bool, true, false, List, [], ◌∷◌, ◌++◌}
-use Rattle.meaning.specs.Words.{if◌then◌else◌, bytes}
+use Rattle.meaning.specs.Words.{when◌then◌else◌, bytes}
 use Rattle.meaning.specs.Run.{Worked, Only, worked_under}
 use Rattle.meaning.specs.Computing.{computing}
 use Rattle.meaning.specs.Pond.{Row, row, Agree, refusal_in, flow_under}
@@ -64,7 +64,7 @@ order_table =
     []
 
 pub order : Agree order_table
-unfolding if◌then◌else◌ rank_of comes_first
+unfolding when◌then◌else◌ rank_of comes_first
 order = (refl, (refl, (refl, (refl, (refl, (refl, (refl, (refl, (refl, (refl, (refl, (refl, (refl, (refl, (refl, tt)))))))))))))))
 
 abbrev found_table : List Row

@@ -10,7 +10,7 @@ use Rattle.std.specs.Prelude.{ℕ, zero, suc, ◌+◌, ◌-◌, ◌*◌, ◌≤�
 use Rattle.std.proofs.Common.{sym, ap, ◌∙◌, inl, inr, ⊎_elim, append-nil, mul-one, arith, length-append, drop_at, eq-eqb, ne_eqb}
 use Rattle.std.proofs.Math.Bool.{true, false}
 use Rattle.std.proofs.Math.Seq.{get_or-append_seam}
-use Rattle.meaning.specs.Words.{if◌then◌else◌}
+use Rattle.meaning.specs.Words.{when◌then◌else◌}
 use Rattle.meaning.specs.Blocks.{Time, ratio_at}
 use Rattle.meaning.specs.Results.{Result, record_size, records_of}
 use Rattle.meaning.specs.Run.{Only, Worked, Stopped, Done, worked_under, worked, Lent, Accepted, named_flow, named_ratio, block_count, all_records, record_bytes, accepted}
@@ -62,7 +62,7 @@ at_append (x ∷ xs) y d (suc i) h = at_append xs y d i (omega arith)
 
 -- The ratio that is named, 0 the last, or that stands at the place just walked; and one that stands before it.
 last_named : (rss : List (List Result)) (rs : List Result) (ratio k : ℕ) → length rss ≡ k → (ratio ≡ 0) ⊎ (ratio ≡ k + 1) → named_ratio ratio (rss ++ (rs ∷ [])) ≡ rs
-unfolding named_ratio if◌then◌else◌
+unfolding named_ratio when◌then◌else◌
 last_named rss rs ratio k e (inl z) =
     let n : length (rss ++ (rs ∷ [])) - 1 ≡ length rss = omega (arith, length-append rss (rs ∷ [])) in
     rw (eq-eqb ratio 0 z, n) (get_or-append_seam rss rs [] [])
@@ -72,7 +72,7 @@ last_named rss rs ratio k e (inr z) =
     rw (ne_eqb ratio 0 p, n) (get_or-append_seam rss rs [] [])
 
 other_named : (rss : List (List Result)) (rs : List Result) (ratio k : ℕ) → length rss ≡ k → 0 < ratio → ratio ≤ k → named_ratio ratio (rss ++ (rs ∷ [])) ≡ named_ratio ratio rss
-unfolding named_ratio if◌then◌else◌
+unfolding named_ratio when◌then◌else◌
 other_named rss rs ratio k e p h =
     let q : ratio ≡ 0 → ⊥ = λ y. omega arith in
     let i : ratio - 1 < length rss = omega arith in
@@ -127,8 +127,8 @@ module _ (deck : List ℕ) (named ratio n m : ℕ) where
 
   -- Nothing is asked of what was lent once a walk was refused.
   either_stopped : (t : Bool) (number line number' line' k : ℕ) (ordinates records : List ℕ)
-      → HoldsOf deck named ratio n m k (if t then Stopped number line else Stopped number' line') ordinates records
-  unfolding if◌then◌else◌
+      → HoldsOf deck named ratio n m k (when t then Stopped number line else Stopped number' line') ordinates records
+  unfolding when◌then◌else◌
   either_stopped true number line number' line' k ordinates records = tt
   either_stopped false number line number' line' k ordinates records = tt
 

@@ -8,7 +8,7 @@ use Rattle.std.specs.Prelude.{ℕ, suc, ◌+◌, ◌-◌, ◌*◌, ◌/◌, ◌%
 use Rattle.std.proofs.Common.{sym, ap, ◌∙◌, ⊎_elim, le_trans, mul-le-mul, mod-lt, add-one, arith, lt-ltb, le-ltb}
 use Rattle.std.proofs.Math.Nat.{div-le_of_le-mul}
 use Rattle.sequences.specs.Choices.{taken, passed, below_or_not}
-use Rattle.meaning.specs.Words.{◌<?◌, if◌then◌else◌}
+use Rattle.meaning.specs.Words.{◌<?◌, when◌then◌else◌}
 use Rattle.meaning.specs.Water.{flow_limit}
 use Rattle.meaning.specs.Pool.{PoolRow, rows_of, w_of, outflow_at, last_w}
 use Rattle.pond.specs.declared.Span.{Span}
@@ -38,7 +38,7 @@ pub record Found (m : ℕ) (svs sqs : List ℕ) (s : Span) (w : ℕ) : Type 0 wh
   pub reached : Reached m svs sqs s.row w
 
 abbrev pub outflow_in : Span → ℕ → ℕ
-outflow_in s w = if s.high <? w then s.out + 600_000 * s.more else s.out + s.more * (w - s.low) / s.rise
+outflow_in s w = when s.high <? w then s.out + 600_000 * s.more else s.out + s.more * (w - s.low) / s.rise
 
 pub record Graded (s : Span) (w : ℕ) : Type 0 where
   pub some : 0 < s.rise

@@ -9,7 +9,7 @@ use Rattle.std.proofs.Common.{sym, true≢false, ⊎_elim, append-nil, arith, ne
 use Rattle.std.proofs.lemmas.List.{get_or-replicate}
 use Rattle.std.proofs.Math.ListN.{get_or-eq_default}
 use Rattle.sequences.specs.Choices.{below_or_not}
-use Rattle.meaning.specs.Words.{◌=?◌, if◌then◌else◌}
+use Rattle.meaning.specs.Words.{◌=?◌, when◌then◌else◌}
 use Rattle.meaning.specs.Numbers.{Value, Malformed, Negative, Units, number_of, in_units}
 use Rattle.meaning.specs.Records.{Rule, Unnamed, NotRead, Limited, Worded, Row, Once, Listed, Item, row_of, rules_of, ratio_rules, time_rules, filled_up, value_fields, rule_at, is_malformed, is_outside, is_other, word_in, faulty_field, outside_field}
 use Rattle.meaning.specs.Run.{ratio_fields}
@@ -29,16 +29,16 @@ module _ (six : Bool) (item : Item) (fs : List (List ℕ)) (inside : item < item
   no-ratios = ne_eqb item (suc items) (λ e. omega (arith, inside, e))
 
   pub item_reason : first_field (refused_by six) (stated_rules item) 0 (stated_fields item fs) ≡ first_field (refused_by six) (rules_of item) 0 (value_fields item fs)
-  unfolding if◌then◌else◌
+  unfolding when◌then◌else◌
   item_reason = rw (no-ratios, block_row item inside, row_fields (row_of item) fs, fields_in_lem item fs)
 
 module _ (six : Bool) (fs : List (List ℕ)) where
   pub time-reason : first_field (refused_by six) (stated_rules items) 0 (stated_fields items fs) ≡ first_field (refused_by six) time_rules 0 (filled_up time_rules fs)
-  unfolding if◌then◌else◌
+  unfolding when◌then◌else◌
   time-reason = refl
 
   pub ratio-reason : first_field (refused_by six) (stated_rules (suc items)) 0 (stated_fields (suc items) fs) ≡ first_field (refused_by six) ratio_rules 0 (ratio_fields fs)
-  unfolding if◌then◌else◌
+  unfolding when◌then◌else◌
   ratio-reason = refl
 
 -- THE RULE of a ratio
@@ -61,11 +61,11 @@ raised-ratio (suc k) =
 
 module _ (item k : ℕ) where
   pub stated_same : (item ≡ suc items → ⊥) → rule_at (stated_rules item) k ≡ rule_at (rules_by item) k
-  unfolding if◌then◌else◌
+  unfolding when◌then◌else◌
   stated_same other = rw (ne_eqb item (suc items) other)
 
   pub stated-raised : item ≡ suc items → rule_at (stated_rules item) k ≡ raised (rule_at (rules_by item) k)
-  unfolding if◌then◌else◌
+  unfolding when◌then◌else◌
   stated-raised is = rw (is) (sym (raised-ratio k))
 
 -- which has as few places

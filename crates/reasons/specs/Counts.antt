@@ -8,7 +8,7 @@ use Rattle.std.proofs.Math.Path.{ap}
 use Rattle.std.proofs.Math.Bool.{true, false}
 use mathlib.Core.List.{List, [], ◌∷◌}
 use Rattle.sequences.specs.Parts.{part, length_part}
-use Rattle.meaning.specs.Words.{if◌then◌else◌, empty}
+use Rattle.meaning.specs.Words.{when◌then◌else◌, empty}
 use Rattle.meaning.specs.Fields.{Form, trim_end, fields_of}
 use Rattle.fields.specs.declared.Span.{Span}
 use Rattle.fields.specs.Spans.{Stands, first_place, fields_from}
@@ -44,16 +44,16 @@ module _ (form : Form) (l : List ℕ) where
     abbrev later : List (List ℕ)
     later = trim_end empty (fields_from form (i + 1) r.next l)
 
-    past : (b : Bool) → empty field ≡ b → count_behind (if b then count else i + 1) (i + 1) later ≡ counted count i c
+    past : (b : Bool) → empty field ≡ b → count_behind (when b then count else i + 1) (i + 1) later ≡ counted count i c
     unfolding trim_end
     past b is =
-        ap (λ (b : Bool). count_behind (if b then count else i + 1) (i + 1) later) (sym is) ∙ count-step count i field later
+        ap (λ (b : Bool). count_behind (when b then count else i + 1) (i + 1) later) (sym is) ∙ count-step count i field later
         ∙ ap (λ (gs : List (List ℕ)). count_behind count i (trim_end empty gs)) (sym t.fields)
 
     pub count-filled : r.from < r.to → counted (i + 1) (i + 1) r.next ≡ counted count i c
-    unfolding if◌then◌else◌
+    unfolding when◌then◌else◌
     count-filled some = past false (is-filled field (omega (arith, long)))
 
     pub count-blank : r.to ≤ r.from → counted count (i + 1) r.next ≡ counted count i c
-    unfolding if◌then◌else◌
+    unfolding when◌then◌else◌
     count-blank none = past true (is_empty field (omega (arith, long)))

@@ -9,7 +9,7 @@ use Rattle.std.proofs.Common.{sym, ap, ◌∙◌, append_assoc, lt-ltb, length-a
 use native.Mathlib.Omega.{arith}
 use Rattle.std.proofs.lemmas.List.{length-replicate, replicate-append-replicate}
 use Rattle.std.proofs.Math.Seq.{take-append_seam}
-use Rattle.meaning.specs.Words.{◌<?◌, if◌then◌else◌}
+use Rattle.meaning.specs.Words.{◌<?◌, when◌then◌else◌}
 use Rattle.meaning.specs.Fields.{Form, fields_of}
 use Rattle.meaning.specs.Records.{Rule, Item, rule_at}
 use Rattle.meaning.specs.Reasons.{field_line, first_field}
@@ -43,20 +43,20 @@ module _ (item : Item) (form : Form) (l : List ℕ) where
 
 module _ (test : Rule → List ℕ → Bool) (rules : List Rule) (k : ℕ) (f : List ℕ) (later : List (List ℕ)) where
   pub field-here : (n : ℕ) → 0 < n → test (rule_at rules k) f ≡ true → first_field test rules k (take n (f ∷ later)) ≡ field_line (k + 1) (rule_at rules k) f
-  unfolding first_field if◌then◌else◌
+  unfolding first_field when◌then◌else◌
   field-here zero some met = absurd (omega arith)
   field-here (suc n) some met = rw met
 
   pub field_passed : (n : ℕ) → 0 < n → test (rule_at rules k) f ≡ false → first_field test rules k (take n (f ∷ later)) ≡ first_field test rules (k + 1) (take (n - 1) later)
-  unfolding first_field if◌then◌else◌
+  unfolding first_field when◌then◌else◌
   field_passed zero some met = absurd (omega arith)
   field_passed (suc n) some met = let e : suc n - 1 ≡ n = omega arith in rw (met, e)
 
 pub still_left : (n c i all : ℕ) → i < all → left_by n c i all ≡ true
-unfolding if◌then◌else◌
+unfolding when◌then◌else◌
 still_left n c i all h = rw (lt-ltb i all h) (by (c <? n))
   where
-    by : (t : Bool) → (if t then true else true) ≡ true
+    by : (t : Bool) → (when t then true else true) ≡ true
     by true = refl
     by false = refl
 

@@ -6,7 +6,7 @@ use Rattle.std.proofs.Math.Path.{refl, ap}
 use Rattle.std.proofs.Common.{◌∙◌, arith, length-take-le}
 use mathlib.Core.List.{List, [], ◌∷◌}
 use Rattle.sequences.specs.Parts.{part}
-use Rattle.meaning.specs.Words.{if◌then◌else◌}
+use Rattle.meaning.specs.Words.{when◌then◌else◌}
 use Rattle.meaning.specs.Lines.{lines_of, foreign}
 use Rattle.meaning.specs.Fields.{Form}
 use Rattle.meaning.specs.Run.{head_of}
@@ -27,7 +27,7 @@ first_line {s} {end} {next} f =
 
 -- a line that passed 3 has its head by its identifier
 head_plain : (l : List ℕ) → foreign l ≡ false → head_of l ≡ plain_head l
-unfolding head_of plain_head if◌then◌else◌
+unfolding head_of plain_head when◌then◌else◌
 head_plain l sound = rw sound
 
 module _ (six : Bool) (form : Form) where
@@ -41,5 +41,5 @@ module _ (six : Bool) (form : Form) where
   fair_reason {s} {end} f = ap (first_reason six form) f.lines ∙ ap (head_reason six form (take end s)) (head_plain (take end s) f.sound)
 
   pub foreign-reason : {s : List ℕ} → ForeignAt s 0 → reason six form s ≡ []
-  unfolding reason head_of if◌then◌else◌
+  unfolding reason head_of when◌then◌else◌
   foreign-reason f = ap (first_reason six form) f.lines ∙ rw f.met

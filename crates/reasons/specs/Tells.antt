@@ -11,7 +11,7 @@ use Rattle.std.proofs.Math.Bool.{true, false}
 use mathlib.Core.List.{List, [], ◌∷◌}
 use Rattle.std.proofs.Math.Nat.{add-zero}
 use native.Mathlib.Omega.{arith}
-use Rattle.meaning.specs.Words.{◌=?◌, if◌then◌else◌, empty, met, first}
+use Rattle.meaning.specs.Words.{◌=?◌, when◌then◌else◌, empty, met, first}
 use Rattle.meaning.specs.Lines.{foreign, all_blank}
 use Rattle.meaning.specs.Fields.{Form, fields_of, name_in}
 use Rattle.meaning.specs.Records.{Item, Record, ID, IT, JR, KK, KM, ZZ, Control, Of, Identified, Unknown, Known, identify, Rule, rule_at, time_rules, ratio_rules, rules_of, filled_up, value_fields, faulty_field, outside_field, any_field, bad_name}
@@ -30,7 +30,7 @@ pub record Told (test : Rule → List ℕ → Bool) (rules : List Rule) (k : ℕ
 module _ (test : Rule → List ℕ → Bool) (rules : List Rule) where
   module _ (k : ℕ) (f : List ℕ) (fs : List (List ℕ)) where
     here : test (rule_at rules k) f ≡ true → Told test rules k (f ∷ fs) (first_field test rules k (f ∷ fs))
-    unfolding first_field if◌then◌else◌
+    unfolding first_field when◌then◌else◌
     here e = record { place = 0; there = omega arith; line = rw (e, add-zero k); meets = rw (add-zero k) e; none_before = λ (j : ℕ) h. absurd (omega arith) }
 
     before : test (rule_at rules k) f ≡ false → (place : ℕ) → ((j : ℕ) → j < place → test (rule_at rules (k + 1 + j)) (get_or fs j []) ≡ false)
@@ -39,7 +39,7 @@ module _ (test : Rule → List ℕ → Bool) (rules : List Rule) where
     before e place earlier (suc j) h = let n : k + suc j ≡ k + 1 + j = omega arith in rw n (earlier j (omega arith))
 
     later : test (rule_at rules k) f ≡ false → Told test rules (k + 1) fs (first_field test rules (k + 1) fs) → Told test rules k (f ∷ fs) (first_field test rules k (f ∷ fs))
-    unfolding first_field if◌then◌else◌
+    unfolding first_field when◌then◌else◌
     later e t =
         let n : k + suc t.place ≡ k + 1 + t.place = omega arith in
         record { place = suc t.place; there = omega (arith, t.there); line = rw (e, n) t.line; meets = rw n t.meets; none_before = before e t.place t.none_before }
@@ -191,11 +191,11 @@ module _ (six : Bool) (l : List ℕ) where
     pub tells : Tells six (form_in r) l holds
 
   pub refused-told : (r : Reading) → read_line r l ≡ Refuse (number_by six) → LineTold r
-  unfolding read_line head_of if◌then◌else◌
+  unfolding read_line head_of when◌then◌else◌
   refused-told r = by (foreign l) refl (all_blank l) refl (identify l) refl
     where
       by : (t : Bool) → foreign l ≡ t → (u : Bool) → all_blank l ≡ u → (i : Identified) → identify l ≡ i
-          → Refused (read_by (if t then Faulty 3 else if u then Skipped else holding i) r l) → LineTold r
+          → Refused (read_by (when t then Faulty 3 else when u then Skipped else holding i) r l) → LineTold r
       by true e u f i g h = absurd (other 3 refl six (ap number_in h))
       by false e true f i g h = passed (Go r) refl h
       by false e false f Unknown g h = absurd (other 4 refl six (ap number_in h))

@@ -5,7 +5,7 @@
 use Rattle.std.specs.Prelude.{ℕ, ◌+◌, ◌≤◌, ◌<◌, ◌≡◌, Bool, true, false, List, [], ◌∷◌, ◌++◌, length}
 use Prim.Native.String.{String}
 use Rattle.std.proofs.Common.{append_assoc, arith, lt-ltb, le-ltb, length-append}
-use Rattle.meaning.specs.Words.{◌<?◌, if◌then◌else◌, bytes}
+use Rattle.meaning.specs.Words.{◌<?◌, when◌then◌else◌, bytes}
 use Rattle.meaning.specs.Lines.{lf, blank}
 use Rattle.meaning.specs.Numbers.{Number, NoNumber, Decimal, number_of}
 use Rattle.meaning.specs.Records.{Rule, Unnamed, NotRead, Limited, Worded}
@@ -18,11 +18,11 @@ pub rule_short : (word : String) (most low high : ℕ) → length (rule_text wor
 rule_short word most low high = simp length-append (omega (arith, whole_within most, whole_within low, whole_within high))
 
 number_short : (places low high : ℕ) (n : Number) → length (number_reason places low high n) ≤ why_size
-unfolding if◌then◌else◌
+unfolding when◌then◌else◌
 number_short places low high NoNumber = omega (arith, rule_short "NUMBER" places low high)
 number_short places low high (Decimal minus digits left) = by (places <? left)
   where
-    by : (t : Bool) → length (if t then rule_text "PLACES" places low high ++ (blank ∷ whole left) else rule_text "LIMITS" places low high) ≤ why_size
+    by : (t : Bool) → length (when t then rule_text "PLACES" places low high ++ (blank ∷ whole left) else rule_text "LIMITS" places low high) ≤ why_size
     by true = rw (length-append (rule_text "PLACES" places low high) (blank ∷ whole left)) (omega (arith, rule_short "PLACES" places low high, whole_within left))
     by false = omega (arith, rule_short "LIMITS" places low high)
 
@@ -36,11 +36,11 @@ field_short (Worded refusal most low high) f = omega (arith, rule_short "WORD" m
 -- a number with more places than are allowed, and one with few enough
 module _ (places low high : ℕ) (minus : Bool) (digits left : ℕ) where
   pub many-places : places < left → number_reason places low high (Decimal minus digits left) ≡ rule_text "PLACES" places low high ++ (blank ∷ whole left)
-  unfolding if◌then◌else◌
+  unfolding when◌then◌else◌
   many-places over = rw (lt-ltb places left over)
 
   pub few_places : left ≤ places → number_reason places low high (Decimal minus digits left) ≡ rule_text "LIMITS" places low high
-  unfolding if◌then◌else◌
+  unfolding when◌then◌else◌
   few_places within = rw (le-ltb places left within)
 
 regroup : (a b c d e : List ℕ) → a ++ b ++ (blank ∷ c) ++ (blank ∷ d) ++ e ≡ a ++ b ++ (blank ∷ []) ++ c ++ (blank ∷ []) ++ d ++ e

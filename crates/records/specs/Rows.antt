@@ -7,7 +7,7 @@ use Rattle.std.proofs.Common.{zero-le, arith, leb-true}
 use Rattle.std.proofs.Math.Path.{refl}
 use Rattle.std.proofs.Math.ListN.{get_or-append}
 use Rattle.sequences.specs.Choices.{both_hold}
-use Rattle.meaning.specs.Words.{◌=?◌, ◌≤?◌, if◌then◌else◌}
+use Rattle.meaning.specs.Words.{◌=?◌, ◌≤?◌, when◌then◌else◌}
 use Rattle.meaning.specs.Records.{Rule, Limited, only, UpTo, UpToNQ, Row, Once, Listed, table, time_rules, Item, row_of, rules_in, most_ordinates}
 
 -- how many records there are
@@ -90,14 +90,14 @@ next_start item h = let e : item + 1 ≡ suc item = omega arith in rw e (start-n
 
 -- the same by numbers
 abbrev pub span_by : (way room count : ℕ) → ℕ
-span_by way room count = if way =? 0 then room else count
+span_by way room count = when way =? 0 then room else count
 
 abbrev pub most_by : (way room nq : ℕ) → ℕ
-most_by way room nq = if way =? 2 then nq else room
+most_by way room nq = when way =? 2 then nq else room
 
 module _ (row : Row) where
   pub span-by : (count : ℕ) → span_by (way_in row) (room_in row) count ≡ span_in row count
-  unfolding if◌then◌else◌
+  unfolding when◌then◌else◌
   span-by count = by row
     where
       by : (r : Row) → span_by (way_in r) (room_in r) count ≡ span_in r count
@@ -106,7 +106,7 @@ module _ (row : Row) where
       by (Listed i UpToNQ r) = refl
 
   pub most-by : (nq : ℕ) → most_by (way_in row) (room_in row) nq ≡ most_in row nq
-  unfolding if◌then◌else◌
+  unfolding when◌then◌else◌
   most-by nq = by row
     where
       by : (r : Row) → most_by (way_in r) (room_in r) nq ≡ most_in r nq

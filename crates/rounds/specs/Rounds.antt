@@ -6,7 +6,7 @@ use Rattle.std.specs.Prelude.{ℕ, ◌+◌, ◌-◌, ◌*◌, ◌≤◌, ◌<◌
 use Rattle.std.proofs.Common.{sym, ap, ◌∙◌, subst, true≢false, inl, inr, ⊎_elim, append-nil, arith, length-take, drop_of_length-le, take_all}
 use Rattle.std.proofs.lemmas.Bool.{false≢true}
 use Rattle.sequences.specs.Choices.{below_or_not}
-use Rattle.meaning.specs.Words.{if◌then◌else◌}
+use Rattle.meaning.specs.Words.{when◌then◌else◌}
 use Rattle.meaning.specs.Blocks.{Time, or_whole, ratio_at}
 use Rattle.meaning.specs.Results.{Result, record_size}
 use Rattle.meaning.specs.Run as run
@@ -31,8 +31,8 @@ Tells (Done τ rss) w = (w.refused ≡ false) × (w.nq ≡ τ.ordinates) × (w.b
 
 -- THE CODE TELLS what is met first
 both_stopped : (next found first t : Bool) (n l m k : ℕ) (w v : Worked) → next ≡ true → found ≡ true → first ≡ t → Tells (Stopped n l) w → Tells (Stopped m k) v
-    → Tells (if t then Stopped n l else Stopped m k) (sooner_by next found first w v)
-unfolding if◌then◌else◌
+    → Tells (when t then Stopped n l else Stopped m k) (sooner_by next found first w v)
+unfolding when◌then◌else◌
 both_stopped next found first true n l m k w v a b c p q = rw (a, b, c) p
 both_stopped next found first false n l m k w v a b c p q = rw (a, b, c) q
 

@@ -2,7 +2,7 @@
 use Rattle.std.specs.Prelude.{ℕ, ◌≤◌, ◌≡◌, Bool, true, false, ◌&&◌, not}
 use Rattle.std.proofs.Math.Path.{refl, sym}
 use Rattle.std.proofs.Common.{ap, ◌∙◌, true≢false}
-use Rattle.meaning.specs.Words.{◌=?◌, if◌then◌else◌}
+use Rattle.meaning.specs.Words.{◌=?◌, when◌then◌else◌}
 use Rattle.meaning.specs.Numbers as numbers
 use Rattle.meaning.specs.Records as records
 use Rattle.meaning.specs.Records.{is_malformed, is_outside, is_other, units_of}
@@ -47,7 +47,7 @@ one_field faulty outside value (Value v out) (Value w other) p q = rw (p.1, p.2,
 
 -- and a word: another one by its refusal, 0 then its value
 abbrev pub WordIs : Field → (refusal low high : ℕ) → numbers.Value → Type 0
-WordIs x refusal low high v = FieldIs x (is_other low high v && (refusal =? 6)) (is_other low high v && not (refusal =? 6)) (if is_other low high v then 0 else units_of v)
+WordIs x refusal low high v = FieldIs x (is_other low high v && (refusal =? 6)) (is_other low high v && not (refusal =? 6)) (when is_other low high v then 0 else units_of v)
 
 -- from what a number of those limits would be told: malformed or outside, it is another word; else it is kept
 module _ (refusal low high : ℕ) (v : numbers.Value) where
@@ -55,7 +55,7 @@ module _ (refusal low high : ℕ) (v : numbers.Value) where
   LimitIs x = FieldIs x (is_malformed v) (is_outside low high v) (units_of v)
 
   other_word : (x : Field) → is_other low high v ≡ true → FieldIs x (refusal =? 6) (not (refusal =? 6)) 0 → WordIs x refusal low high v
-  unfolding if◌then◌else◌
+  unfolding when◌then◌else◌
   other_word x e h = rw e h
 
   pub faulty_other : (x : Field) → LimitIs Faulty → FieldIs x (refusal =? 6) (not (refusal =? 6)) 0 → WordIs x refusal low high v
@@ -65,7 +65,7 @@ module _ (refusal low high : ℕ) (v : numbers.Value) where
   outside_other x u l h = other_word x (rw l.0 (sym l.1)) h
 
   pub inside_kept : (u : ℕ) → LimitIs (Value u false) → WordIs (Value u false) refusal low high v
-  unfolding if◌then◌else◌
+  unfolding when◌then◌else◌
   inside_kept u l = rw (l.0, sym l.1) (refl, refl, l.2)
 
 -- A number has four places at most, and a word eight characters, so that its number fits.

@@ -16,7 +16,7 @@ use Rattle.sequences.specs.Choices.{below_or_not}
 use Rattle.sequences.specs.Parts.{part, put, put_tail, part_to_end}
 use Rattle.sequences.specs.Sums.{sum_to_more, sum_to_past, sum_to_bound, sum_to_same, sum_to_back, length-list_from, get_or_list}
 use Rattle.sequences.specs.Zeros.{get_or_alike}
-use Rattle.meaning.specs.Words.{if◌then◌else◌}
+use Rattle.meaning.specs.Words.{when◌then◌else◌}
 use Rattle.meaning.specs.Water.{list_from, sum_to, share, ordinate, runoff_of}
 use Rattle.meaning.specs.Sheet.{Sheet, brings, column_sum}
 use Rattle.excess.specs.Storms.{most_excess}
@@ -42,12 +42,12 @@ module _ (s : Sheet) where
 
   -- nothing falls before the interval
   brings_none : (i k : ℕ) → i < k → brings s i k ≡ 0
-  unfolding if◌then◌else◌
+  unfolding when◌then◌else◌
   brings_none i k h = rw (lt-leb k i h)
 
   -- and behind the last unit ordinate a share is none
   pub brings-share : (i k : ℕ) → k ≤ i → brings s i k ≡ get_or units (i - k) 0 * get_or excess k 0
-  unfolding if◌then◌else◌
+  unfolding when◌then◌else◌
   brings-share i k h =
       let back : i - (i - k) ≡ k = omega arith in
       ⊎_elim

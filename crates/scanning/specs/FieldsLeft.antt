@@ -8,7 +8,7 @@ use Rattle.std.proofs.Common.{sym, ap, ◌∙◌, true≢false, ⊎_elim, append
 use Rattle.std.proofs.lemmas.List.{length-replicate, replicate-append-replicate}
 use Rattle.sequences.specs.Choices.{below_or_not}
 use Rattle.sequences.specs.Parts.{part}
-use Rattle.meaning.specs.Words.{◌<?◌, if◌then◌else◌}
+use Rattle.meaning.specs.Words.{◌<?◌, when◌then◌else◌}
 use Rattle.meaning.specs.Fields.{Form, Fixed, Free, fields_of}
 use Rattle.fields.specs.declared.Span.{Span}
 use Rattle.fields.specs.Spans.{Stands, first_place, span_at, fields_from}
@@ -23,7 +23,7 @@ abbrev pub left_fields : Form → ℕ → ℕ → ℕ → List ℕ → List (Lis
 left_fields form named i c l = blanks_for named i (fields_from form i c l)
 
 abbrev pub left_by : (length c i named : ℕ) → Bool
-left_by length c i named = if c <? length then true else (i <? named)
+left_by length c i named = when c <? length then true else (i <? named)
 
 -- a field past the line's end
 abbrev pub blank_span : Form → ℕ → ℕ → Span
@@ -32,7 +32,7 @@ blank_span Fixed i c = record { from = 0; to = 0; next = 8 * i + 8 }
 
 -- field i, looked for at c
 abbrev pub next_span : Form → List ℕ → ℕ → ℕ → Span
-next_span form l i c = if c <? length l then span_at form l i c else blank_span form i c
+next_span form l i c = when c <? length l then span_at form l i c else blank_span form i c
 
 -- One field noted: it is the first of those left, and the pass goes on behind it.
 pub record SpanTurn (form : Form) (l : List ℕ) (i c : ℕ) (r : Span) : Type 0 where
@@ -74,7 +74,7 @@ blank-begins Free i c = (refl, refl)
 blank-begins Fixed i c = (refl, refl)
 
 not_inside : (n c i named : ℕ) → n ≤ c → left_by n c i named ≡ true → i < named
-unfolding if◌then◌else◌
+unfolding when◌then◌else◌
 not_inside n c i named h e = ltb-true i named (rw (le-ltb c n h) at e)
 
 blank_turn : (form : Form) (l : List ℕ) (i c : ℕ) (r : Span) → length l ≤ c → Stands form l i c → r ≡ blank_span form i c → SpanTurn form l i c r
@@ -101,7 +101,7 @@ blank_turn form l i c r h s e =
     }
 
 pub span_turn : (form : Form) (l : List ℕ) (i c : ℕ) (r : Span) → length l ≤ 80 → Stands form l i c → r ≡ next_span form l i c → SpanTurn form l i c r
-unfolding if◌then◌else◌
+unfolding when◌then◌else◌
 span_turn form l i c r short s e =
     ⊎_elim
     (λ (h : c < length l). field_turn form l i c r h short s (rw (lt-ltb c (length l) h) at e))
@@ -110,7 +110,7 @@ span_turn form l i c r short s e =
 
 -- none are left
 pub left_none : (form : Form) (named : ℕ) (l : List ℕ) (i c : ℕ) → Stands form l i c → left_by (length l) c i named ≡ false → left_fields form named i c l ≡ []
-unfolding if◌then◌else◌
+unfolding when◌then◌else◌
 left_none form named l i c s e =
     ⊎_elim
     (λ (h : c < length l). absurd (true≢false (rw (lt-ltb c (length l) h) at e)))

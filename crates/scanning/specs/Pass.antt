@@ -8,7 +8,7 @@ use Rattle.std.specs.Prelude.{ℕ, suc, ◌+◌, ◌-◌, ◌≤◌, ◌<◌, �
 use Rattle.std.proofs.Common.{sym, ◌∙◌, append-nil, append_assoc, arith, add-one, lt-ltb, length-set, take-suc-set}
 use Rattle.std.proofs.Math.Bool.{or-false, or_assoc}
 use Rattle.std.proofs.lemmas.List.{take-set-le}
-use Rattle.meaning.specs.Words.{◌<?◌, if◌then◌else◌, empty}
+use Rattle.meaning.specs.Words.{◌<?◌, when◌then◌else◌, empty}
 use Rattle.meaning.specs.Fields.{trim_end}
 use Rattle.meaning.specs.Records.{Rule, rule_at, outside_field, any_field, any_outside, value_of, values_from}
 
@@ -19,13 +19,13 @@ pub record Scanned : Type 0 where
 
 -- one value kept, of ten
 unfoldable pub kept : ℕ → ℕ → List ℕ → List ℕ
-kept k v vs = if k <? 10 then set vs k v else vs
+kept k v vs = when k <? 10 then set vs k v else vs
 
 abbrev pub noted : List Rule → ℕ → List ℕ → Scanned → Scanned
 noted rules k f s =
     record {
       values = kept k (value_of (rule_at rules k) f) s.values;
-      count = if empty f then s.count else k + 1;
+      count = when empty f then s.count else k + 1;
       outside = s.outside || outside_field (rule_at rules k) f;
     }
 
@@ -44,8 +44,8 @@ abbrev pub count_behind : ℕ → ℕ → List (List ℕ) → ℕ
 count_behind c k [] = c
 count_behind c k (t ∷ ts) = k + length (t ∷ ts)
 
-pub count-step : (c k : ℕ) (f : List ℕ) (ts : List (List ℕ)) → count_behind (if empty f then c else k + 1) (k + 1) ts ≡ count_behind c k (if empty f && empty ts then [] else f ∷ ts)
-unfolding if◌then◌else◌
+pub count-step : (c k : ℕ) (f : List ℕ) (ts : List (List ℕ)) → count_behind (when empty f then c else k + 1) (k + 1) ts ≡ count_behind c k (when empty f && empty ts then [] else f ∷ ts)
+unfolding when◌then◌else◌
 count-step c k [] [] = refl
 count-step c k [] (t ∷ ts) = omega arith
 count-step c k (b ∷ f) [] = refl
@@ -65,23 +65,23 @@ scan_count rules fs s e = scan_counts rules 0 fs s ∙ rw e (count-start (trim_e
 
 -- a value kept stands behind those kept before
 kept_next : (k v : ℕ) (vs : List ℕ) → k < 10 → length vs ≡ 10 → take (k + 1) (kept k v vs) ≡ take k vs ++ (v ∷ [])
-unfolding kept if◌then◌else◌
+unfolding kept when◌then◌else◌
 kept_next k v vs h e = rw (lt-ltb k 10 h, add-one) (take-suc-set vs k v (omega arith))
 
 kept-length : (k v : ℕ) (vs : List ℕ) → length (kept k v vs) ≡ length vs
-unfolding kept if◌then◌else◌
+unfolding kept when◌then◌else◌
 kept-length k v vs = by (k <? 10)
   where
-    by : (t : Bool) → length (if t then set vs k v else vs) ≡ length vs
+    by : (t : Bool) → length (when t then set vs k v else vs) ≡ length vs
     by true = length-set vs k v
     by false = refl
 
 -- and leaves those alone
 kept_before : (n k v : ℕ) (vs : List ℕ) → n ≤ k → take n (kept k v vs) ≡ take n vs
-unfolding kept if◌then◌else◌
+unfolding kept when◌then◌else◌
 kept_before n k v vs h = by (k <? 10)
   where
-    by : (t : Bool) → take n (if t then set vs k v else vs) ≡ take n vs
+    by : (t : Bool) → take n (when t then set vs k v else vs) ≡ take n vs
     by true = take-set-le n vs k v h
     by false = refl
 

@@ -1,7 +1,7 @@
 -- What the code's pass over a line's fields means.
 use Rattle.std.specs.Prelude.{ℕ, suc, ◌+◌, Bool, ◌||◌, List, [], ◌∷◌, ◌≡◌, refl, length}
 use Rattle.std.proofs.Common.{arith, ne_eqb}
-use Rattle.meaning.specs.Words.{◌=?◌, if◌then◌else◌, empty}
+use Rattle.meaning.specs.Words.{◌=?◌, when◌then◌else◌, empty}
 use Rattle.meaning.specs.Records.{Rule, rule_at, outside_field, value_of}
 use Rattle.scanning.specs.Pass.{Scanned, kept, noted}
 use Rattle.scanning.specs.declared.Scan.{Scan}
@@ -19,6 +19,6 @@ blank-length (b ∷ f) = ne_eqb (suc (length f)) 0 (λ e. absurd (omega arith))
 
 -- what the code keeps of a field is what the definition notes
 pub noted_by : (rules : List Rule) (k : ℕ) (f values : List ℕ) (s : Scan) (values' : List ℕ) (s' : Scan) (v : ℕ) (out : Bool)
-    → values' ≡ kept k v values → s'.count ≡ (if blank_by (length f) then s.count else k + 1) → s'.outside ≡ (s.outside || out)
+    → values' ≡ kept k v values → s'.count ≡ (when blank_by (length f) then s.count else k + 1) → s'.outside ≡ (s.outside || out)
     → out ≡ outside_field (rule_at rules k) f → v ≡ value_of (rule_at rules k) f → scanned_of values' s' ≡ noted rules k f (scanned_of values s)
 noted_by rules k f values s values' s' v out e₁ e₂ e₃ e₄ e₅ = rw (e₁, e₂, e₃, e₄, e₅, blank-length f)

@@ -8,7 +8,7 @@ use Rattle.std.proofs.Common.{zero-le, sym, ap, ◌∙◌, ⊎_elim, append_asso
 use Rattle.std.proofs.lemmas.List.{length-replicate, get_or-replicate, replicate-append-replicate}
 use Rattle.std.proofs.Math.ListN.{get_or-eq_default}
 use Rattle.sequences.specs.Choices.{below_or_not}
-use Rattle.meaning.specs.Words.{if◌then◌else◌, empty}
+use Rattle.meaning.specs.Words.{when◌then◌else◌, empty}
 use Rattle.meaning.specs.Fields.{trim_end}
 use Rattle.meaning.specs.Records.{Rule, Unnamed, Row, Once, Listed, Item, row_of, rules_in, lists_in, filled_up, value_fields, faulty_field, outside_field, any_field, any_faulty, any_outside, values_from}
 use Rattle.records.specs.Rows.{span_in}
@@ -22,10 +22,10 @@ value_fields_in (Listed identifier most each) fs = fs
 
 -- as the definitions have them, by the record's place
 pub fields_in_lem : (item : Item) (fs : List (List ℕ)) → value_fields item fs ≡ value_fields_in (row_of item) fs
-unfolding value_fields if◌then◌else◌
+unfolding value_fields when◌then◌else◌
 fields_in_lem item fs = by (row_of item)
   where
-    by : (row : Row) → (if lists_in row then fs else filled_up (rules_in row) fs) ≡ value_fields_in row fs
+    by : (row : Row) → (when lists_in row then fs else filled_up (rules_in row) fs) ≡ value_fields_in row fs
     by (Once i rules) = refl
     by (Listed i m each) = refl
 
@@ -39,7 +39,7 @@ pub record LineRead (row : Row) (fs : List (List ℕ)) (s : Scanned) : Type 0 wh
 
 -- blank fields behind others are dropped with them
 trim-blanks : (n : ℕ) → trim_end empty (replicate {A = List ℕ} n []) ≡ []
-unfolding trim_end if◌then◌else◌
+unfolding trim_end when◌then◌else◌
 trim-blanks zero = refl
 trim-blanks (suc n) = rw (trim-blanks n)
 

@@ -2,7 +2,7 @@
 #![tactic(auto)]
 
 ghost use Rattle.std.specs.Prelude.{◌≡◌, true, false, ◌||◌, ◌+◌, ◌≤◌, length};
-ghost use Rattle.meaning.specs.Words.{if◌then◌else◌};
+ghost use Rattle.meaning.specs.Words.{when◌then◌else◌};
 ghost use Rattle.meaning.specs.Records.{rule_at, faulty_field};
 ghost use Rattle.fields.specs.Spans.{form_of, Stands};
 ghost use Rattle.records.specs.Rows.{rules_by};
@@ -49,7 +49,7 @@ fn either(a: bool, b: bool) -> bool
 // The place of the last field that is not blank, and the flag, behind field `k`.
 fn note(scan: Scan, k: usize, length: usize, outside: bool) -> Scan
     requires { k ≤ 100 }
-    ensures { (result.count ≡ (if blank_by length then scan.count else k + 1)) × (result.outside ≡ (scan.outside || outside)) }
+    ensures { (result.count ≡ (when blank_by length then scan.count else k + 1)) × (result.outside ≡ (scan.outside || outside)) }
 {
     let flag = either(scan.outside, outside);
     let before = scan.count;

@@ -12,12 +12,12 @@ use Rattle.std.proofs.Math.Bool.{true, false, and-false}
 use mathlib.Core.List.{List, [], ◌∷◌, ◌++◌}
 use native.Mathlib.Omega.{arith}
 use Rattle.std.proofs.Math.ListN.{length, take}
-use Rattle.meaning.specs.Words.{if◌then◌else◌, empty}
+use Rattle.meaning.specs.Words.{when◌then◌else◌, empty}
 use Rattle.meaning.specs.Fields.{trim_end}
 
 module _ {A : Type 0} (test : A → Bool) where
   pub trim_pass : (xs : List A) (x : A) → test x ≡ true → trim_end test (xs ++ (x ∷ [])) ≡ trim_end test xs
-  unfolding trim_end if◌then◌else◌
+  unfolding trim_end when◌then◌else◌
   trim_pass [] x h = rw h
   trim_pass (y ∷ ys) x h = rw (trim_pass ys x h)
 
@@ -26,34 +26,34 @@ module _ {A : Type 0} (test : A → Bool) where
   not_empty (y ∷ ys) x = refl
 
   pub trim_stop : (xs : List A) (x : A) → test x ≡ false → trim_end test (xs ++ (x ∷ [])) ≡ xs ++ (x ∷ [])
-  unfolding trim_end if◌then◌else◌
+  unfolding trim_end when◌then◌else◌
   trim_stop [] x h = rw h
   trim_stop (y ∷ ys) x h = rw (trim_stop ys x h, not_empty ys x, and-false (test y))
 
   pub trim_front : (xs : List A) → take (length (trim_end test xs)) xs ≡ trim_end test xs
-  unfolding trim_end if◌then◌else◌
+  unfolding trim_end when◌then◌else◌
   trim_front [] = refl
   trim_front (x ∷ xs) = go (test x && empty (trim_end test xs)) (trim_front xs)
     where
       go : (t : Bool) → take (length (trim_end test xs)) xs ≡ trim_end test xs
-          → take (length (if t then [] else x ∷ trim_end test xs)) (x ∷ xs) ≡ (if t then [] else x ∷ trim_end test xs)
+          → take (length (when t then [] else x ∷ trim_end test xs)) (x ∷ xs) ≡ (when t then [] else x ∷ trim_end test xs)
       go true ih = refl
       go false ih = ap (λ (l : List A). x ∷ l) ih
 
   pub trim_within : (xs : List A) → length (trim_end test xs) ≤ length xs
-  unfolding trim_end if◌then◌else◌
+  unfolding trim_end when◌then◌else◌
   trim_within [] = omega arith
   trim_within (x ∷ xs) = go (test x && empty (trim_end test xs)) (trim_within xs)
     where
-      go : (t : Bool) → length (trim_end test xs) ≤ length xs → length (if t then [] else x ∷ trim_end test xs) ≤ suc (length xs)
+      go : (t : Bool) → length (trim_end test xs) ≤ length xs → length (when t then [] else x ∷ trim_end test xs) ≤ suc (length xs)
       go true ih = omega arith
       go false ih = omega arith
 
   -- where one element alone passes the test, it is what was dropped
   module _ (e : A) (alone : (x : A) → test x ≡ true → x ≡ e) where
     step : (x : A) (xs ts : List A) (n : ℕ) (t : Bool) → test x ≡ t → xs ≡ ts ++ replicate n e
-        → (m : ℕ) × (x ∷ xs ≡ (if t && empty ts then [] else x ∷ ts) ++ replicate m e)
-    unfolding if◌then◌else◌
+        → (m : ℕ) × (x ∷ xs ≡ (when t && empty ts then [] else x ∷ ts) ++ replicate m e)
+    unfolding when◌then◌else◌
     step x xs [] n true h k = (suc n, rw (alone x h) (ap (λ (l : List A). e ∷ l) k))
     step x xs (y ∷ ts) n true h k = (n, ap (λ (l : List A). x ∷ l) k)
     step x xs ts n false h k = (n, ap (λ (l : List A). x ∷ l) k)

@@ -5,7 +5,7 @@
 use Rattle.std.specs.Prelude.{ℕ, zero, suc, ◌+◌, ◌-◌, ◌≤◌, ◌<◌, ◌≡◌, refl, Bool, length}
 use Rattle.std.proofs.Common.{sym, ap, ◌∙◌, arith, ltb-false, leb-false}
 use Rattle.sequences.specs.Refusals.{neither_met, not_met}
-use Rattle.meaning.specs.Words.{◌=?◌, ◌≤?◌, ◌<?◌, if◌then◌else◌, met, first}
+use Rattle.meaning.specs.Words.{◌=?◌, ◌≤?◌, ◌<?◌, when◌then◌else◌, met, first}
 use Rattle.meaning.specs.Water.{coef_a, coef_b, coef_c, unroutable}
 use Rattle.meaning.specs.Pool.{table_breaks}
 use Rattle.meaning.specs.Records.{RM, SV, SQ, table}
@@ -98,7 +98,7 @@ none_refused τ b held s = let e : ◌≡◌ {A = ℕ} 9 0 = sym (shape_by τ b 
 -- a reach that 12 does not refuse
 pub reach_shaped : (τ : Time) (b : Block) (held : ℕ) → Shaped Reach τ b held → TimeWithin τ → CardsWithin b → length b.cards ≡ length table
     → routing.Reach (reach_steps b) τ.minutes (reach_k b) (reach_x b)
-unfolding if◌then◌else◌
+unfolding when◌then◌else◌
 reach_shaped τ b held s time cards long =
     let given = kind_must b Reach RM refl (λ e. omega arith) (omega arith) s.is in
     let small = reach_small τ b time cards in

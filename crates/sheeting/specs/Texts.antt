@@ -5,7 +5,7 @@
 --     Shown, shown_there, nothing_there   by whether it is there
 use Rattle.std.specs.Prelude.{ℕ, ◌≤◌, ◌≡◌, refl, true, false, List, [], ◌++◌, get_or}
 use Rattle.std.proofs.Common.{sym, ap, ◌∙◌, true≢false, eq-eqb, ne_eqb}
-use Rattle.meaning.specs.Words.{if◌then◌else◌}
+use Rattle.meaning.specs.Words.{when◌then◌else◌}
 use Rattle.meaning.specs.Blocks.{Time, Block, ratio_at, under, kind_number, kind_of}
 use Rattle.meaning.specs.Sheet.{Sheet, Units, Customary, title_line, table_text, table_of, no_sheet_line, sheet_text}
 use Rattle.limits.specs.Within.{within_under}
@@ -26,11 +26,11 @@ sheet_at place (At τ b) = sheet_text (under (ratio_at place τ) τ) b
 -- by the kind of the block
 module _ (τ : Time) (b : Block) (kind : ℕ) (told : kind ≡ kind_number (kind_of b)) where
   pub runoff_sheet : kind ≡ 1 → sheet_text τ b ≡ table_of Units τ b ++ table_of Customary τ b
-  unfolding if◌then◌else◌
+  unfolding when◌then◌else◌
   runoff_sheet one = rw (eq-eqb (kind_number (kind_of b)) 1 (sym told ∙ one))
 
   pub no_sheet : (kind ≡ 1 → ⊥) → sheet_text τ b ≡ no_sheet_line kind
-  unfolding if◌then◌else◌
+  unfolding when◌then◌else◌
   no_sheet other = rw (ne_eqb (kind_number (kind_of b)) 1 (λ e. other (told ∙ e)), told)
 
 -- A BLOCK THAT IS FOUND, under the ratio at a place

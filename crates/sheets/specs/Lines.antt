@@ -5,7 +5,7 @@
 --     row_cells     a row is its number, the three depths, the shares; row_here: as the code writes it
 use Rattle.std.specs.Prelude.{ℕ, zero, suc, ◌+◌, ◌*◌, ◌≤◌, ◌<◌, ◌≡◌, refl, List, [], ◌∷◌, ◌++◌, length, get_or}
 use Rattle.std.proofs.Common.{sym, ap, ◌∙◌, append-nil, append_assoc, add-zero, mul-suc, add-one, arith, length-append, lt-ltb, le-ltb}
-use Rattle.meaning.specs.Words.{if◌then◌else◌, bytes}
+use Rattle.meaning.specs.Words.{when◌then◌else◌, bytes}
 use Rattle.meaning.specs.Lines.{lf}
 use Rattle.meaning.specs.Listing.{whole}
 use Rattle.meaning.specs.Sheet.{Measure, Sheet, cells_from, depth_text, share_text, row_line, rows_from}
@@ -70,11 +70,11 @@ module _ (m : Measure) (s : Sheet) where
 
   -- without excess there is none
   pub row_none : (k : ℕ) → get_or s.excesses k 0 ≡ 0 → row_at m s k ≡ []
-  unfolding if◌then◌else◌
+  unfolding when◌then◌else◌
   row_none k none = rw (le-ltb 0 (get_or s.excesses k 0) (omega arith))
 
   pub row_some : (k : ℕ) → 0 < get_or s.excesses k 0 → row_at m s k ≡ row_line m s k
-  unfolding if◌then◌else◌
+  unfolding when◌then◌else◌
   row_some k some = rw (lt-ltb 0 (get_or s.excesses k 0) some)
 
   pub row_cells : (k : ℕ) → row_line m s k

@@ -8,7 +8,7 @@ use Rattle.std.proofs.Math.Bool.{true, false}
 use Rattle.std.proofs.Common.{mul-le-mul, mul-le-mul_left, length-append}
 use native.Mathlib.Omega.{arith}
 use Rattle.std.proofs.Math.ListN.{length, get_or}
-use Rattle.meaning.specs.Words.{◌<?◌, if◌then◌else◌, bytes}
+use Rattle.meaning.specs.Words.{◌<?◌, when◌then◌else◌, bytes}
 use Rattle.meaning.specs.Lines.{lf}
 use Rattle.meaning.specs.Records.{most_ordinates}
 use Rattle.meaning.specs.Listing.{whole, two_places}
@@ -59,10 +59,10 @@ module _ (m : Measure) (s : Sheet) where
       rw (row_cells m s k, length_four (whole (k + 1)) depths shares (lf ∷ [])) (omega (arith, whole_within (k + 1), three, shares_short m s.units excess k s.intervals))
 
   row_at_short : (k : ℕ) → length (row_at m s k) ≤ row_size s.intervals
-  unfolding if◌then◌else◌
+  unfolding when◌then◌else◌
   row_at_short k = by_test (0 <? get_or s.excesses k 0)
     where
-      by_test : (t : Bool) → length (if t then row_line m s k else []) ≤ row_size s.intervals
+      by_test : (t : Bool) → length (when t then row_line m s k else []) ≤ row_size s.intervals
       by_test true = row_short k
       by_test false = omega arith
 

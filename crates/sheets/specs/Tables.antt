@@ -4,7 +4,7 @@
 --     row_at    the row of an interval, if it has excess
 use Rattle.std.specs.Prelude.{ℕ, ◌≡◌, List, [], length, get_or}
 use Rattle.sequences.specs.Bounds.{AllUpTo}
-use Rattle.meaning.specs.Words.{◌<?◌, if◌then◌else◌}
+use Rattle.meaning.specs.Words.{◌<?◌, when◌then◌else◌}
 use Rattle.meaning.specs.Sheet.{Measure, Sheet, row_line}
 use Rattle.cells.specs.Sizes.{most_depth, most_unit}
 
@@ -24,4 +24,4 @@ pub record Ruled (units rains losses excesses : List ℕ) : Type 0 where
   pub excesses-up : AllUpTo most_depth excesses
 
 abbrev pub row_at : Measure → Sheet → (k : ℕ) → List ℕ
-row_at m s k = if 0 <? get_or s.excesses k 0 then row_line m s k else []
+row_at m s k = when 0 <? get_or s.excesses k 0 then row_line m s k else []

@@ -4,7 +4,7 @@
 use Rattle.std.specs.Prelude.{◌≡◌, Bool, true, false, ◌||◌, List, ◌++◌, ℕ, ◌-◌, ◌≤◌, length, replicate}
 use Rattle.std.proofs.Common.{sym, ap, ◌∙◌, arith, length-append, ltb-false}
 use Rattle.sequences.specs.Choices.{both_fail}
-use Rattle.meaning.specs.Words.{◌=?◌, ◌<?◌, if◌then◌else◌}
+use Rattle.meaning.specs.Words.{◌=?◌, ◌<?◌, when◌then◌else◌}
 use Rattle.meaning.specs.Run.{Lent, Outcome, Accepted, record_bytes, block_count, no_room, outcome}
 use Rattle.meaning.specs.Moving as meaning
 use Rattle.meaning.specs.Moving.{to_new, to_old}
@@ -21,7 +21,7 @@ use Rattle.files.specs.Movers.{accepted}
 
 -- 1: to the new form; else to the old.
 abbrev pub moved_as : (asked : ℕ) → (file : List ℕ) → (room : ℕ) → meaning.Outcome
-moved_as asked file room = if asked =? 1 then to_new file room else to_old file room
+moved_as asked file room = when asked =? 1 then to_new file room else to_old file room
 
 -- where 17 is not met there is room
 roomy : (named ratio nq blocks ratios : ℕ) (lent : Lent) → no_room named ratio nq blocks ratios lent ≡ false → record_bytes blocks ratios ≤ lent.records
@@ -52,8 +52,8 @@ module _ {size to : ℕ} {form : List ℕ → List ℕ} {faults : List (List ℕ
       let whole : room ≡ moved_by form size file ++ behind = ap (λ (o : meaning.Outcome). o.room) (e ∙ a.comes) in
       omega (arith, a.count, ap length whole, length-append (moved_by form size file) behind)
 
-either_fits : (t : Bool) (file : List ℕ) (lent : ℕ) (room : List ℕ) (n : ℕ) → moving.outcome_is (move.Moved n) room ≡ (if t then to_new file lent else to_old file lent) → n ≤ length room
-unfolding if◌then◌else◌
+either_fits : (t : Bool) (file : List ℕ) (lent : ℕ) (room : List ℕ) (n : ℕ) → moving.outcome_is (move.Moved n) room ≡ (when t then to_new file lent else to_old file lent) → n ≤ length room
+unfolding when◌then◌else◌
 either_fits true file lent room n e = way_fits new_way file lent room n e
 either_fits false file lent room n e = way_fits old_way file lent room n e
 

@@ -9,7 +9,7 @@ use Rattle.std.proofs.Math.Bool.{or_assoc, or-false, or-true}
 use Rattle.std.proofs.lemmas.List.{length-replicate, get_or-replicate}
 use Rattle.sequences.specs.Choices.{both_fail}
 use Rattle.sequences.specs.Parts.{part}
-use Rattle.meaning.specs.Words.{◌=?◌, ◌<?◌, if◌then◌else◌, empty, met}
+use Rattle.meaning.specs.Words.{◌=?◌, ◌<?◌, when◌then◌else◌, empty, met}
 use Rattle.meaning.specs.Numbers.{Value, Malformed, Negative, Units, number_of, in_units}
 use Rattle.meaning.specs.Records.{Rule, Unnamed, Limited, only, ratio_rules, rule_at, filled_up, is_malformed, is_outside, units_of, faulty_field, outside_field, value_of, any_field, any_faulty, any_outside, values_from}
 use Rattle.meaning.specs.Blocks.{Time}
@@ -89,11 +89,11 @@ same_blanks test none same fs =
     ∙ blanks_split test ratio_scan 1 (blank_passes test none same) 0 (ratio_fields fs) (n - (2 - length fs)) (omega (arith, fields_long fs))
 
 pub ratio_faults : (fs : List (List ℕ)) → any_faulty ratio_rules 0 (ratio_fields fs) ≡ any_faulty ratio_scan 0 (filled_up ratio_scan fs)
-unfolding number_of in_units if◌then◌else◌
+unfolding number_of in_units when◌then◌else◌
 ratio_faults fs = same_faults 0 (ratio_fields fs) ∙ sym (same_blanks faulty_field refl refl fs)
 
 scan_limits : (fs : List (List ℕ)) → any_outside ratio_scan 0 (filled_up ratio_scan fs) ≡ any_outside ratio_scan 0 (ratio_fields fs)
-unfolding number_of in_units if◌then◌else◌
+unfolding number_of in_units when◌then◌else◌
 scan_limits fs = same_blanks outside_field refl refl fs
 
 -- A RATIO OF 0 is all that the pass lets through
@@ -162,7 +162,7 @@ zero-among fs count values left kept two = rw (le-ltb count 2 two, two_fields fs
 -- and where one of the two is not there the first ratio is blank
 none_or_zero : (fs : List (List ℕ)) (count : ℕ) (values : List ℕ) → count ≡ length fs → take count values ≡ values_from ratio_scan 0 fs
     → any_zero (drop 1 (values_from ratio_scan 0 (ratio_fields fs))) ≡ no_ratio count values
-unfolding values_from number_of in_units if◌then◌else◌
+unfolding values_from number_of in_units when◌then◌else◌
 none_or_zero [] count values left kept = rw left
 none_or_zero (f ∷ []) count values left kept = rw left
 none_or_zero (f ∷ g ∷ fs) count values left kept = zero-among (f ∷ g ∷ fs) count values left kept (omega arith)

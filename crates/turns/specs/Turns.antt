@@ -5,7 +5,7 @@
 use Rattle.std.specs.Prelude.{ℕ, zero, suc, ◌+◌, ◌-◌, ◌*◌, ◌≤◌, ◌<◌, ◌≡◌, refl, true, false, List, ◌⊎◌}
 use Rattle.std.proofs.Common.{ap, inl, inr, ⊎_elim, arith}
 use Rattle.sequences.specs.Parts.{part}
-use Rattle.meaning.specs.Words.{◌=?◌, if◌then◌else◌}
+use Rattle.meaning.specs.Words.{◌=?◌, when◌then◌else◌}
 use Rattle.meaning.specs.Records.{most_ordinates}
 use Rattle.meaning.specs.Run.{most_blocks}
 use Rattle.blocks.specs.declared.Name.{Name}
@@ -43,7 +43,7 @@ worked_well nq blocks = record { refused = false; number = 0; line = 0; nq = nq;
 
 -- at an accepted end the last block's hydrograph, which alone is held, is copied if no block is named
 abbrev pub copied_last : (named nq : ℕ) → (flow ordinates : List ℕ) → List ℕ
-copied_last named nq flow ordinates = if named =? 0 then copied_first nq flow ordinates else ordinates
+copied_last named nq flow ordinates = when named =? 0 then copied_first nq flow ordinates else ordinates
 
 pub record OpensNext (r : Reading) (name : Name) (at line : ℕ) (closed : Finished) (blocks : ℕ) (t : Turn) (cards : List ℕ) : Type 0 where
   pub refused : (closed.refusal ≡ 0 → ⊥) → Stops closed.refusal line t

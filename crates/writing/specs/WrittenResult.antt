@@ -3,7 +3,7 @@
 --     record_put, copied_first, copied_named     the records and the ordinates then
 use Rattle.std.specs.Prelude.{ℕ, ◌+◌, ◌*◌, ◌≡◌, List, ◌++◌, length, drop}
 use Rattle.sequences.specs.Parts.{put}
-use Rattle.meaning.specs.Words.{◌=?◌, ◌≤?◌, if◌then◌else◌}
+use Rattle.meaning.specs.Words.{◌=?◌, ◌≤?◌, when◌then◌else◌}
 use Rattle.meaning.specs.Results.{record_size}
 use Rattle.results.specs.Record.{record_bytes}
 use Rattle.telling.specs.declared.Closed.{Closed}
@@ -17,12 +17,12 @@ told_as name c r p = rw (r, p)
 
 -- the record of block k, counted from 0, where they fit
 abbrev pub record_put : (k : ℕ) → (bytes records : List ℕ) → List ℕ
-record_put k bytes records = if (record_size * k + record_size) ≤? length records then put (record_size * k) record_size records bytes else records
+record_put k bytes records = when (record_size * k + record_size) ≤? length records then put (record_size * k) record_size records bytes else records
 
 -- a flow of nq ordinates in front, where it fits
 abbrev pub copied_first : (nq : ℕ) → (flow ordinates : List ℕ) → List ℕ
-copied_first nq flow ordinates = if nq ≤? length ordinates then flow ++ drop nq ordinates else ordinates
+copied_first nq flow ordinates = when nq ≤? length ordinates then flow ++ drop nq ordinates else ordinates
 
 -- the same only of the block that is named, by its number from 1
 abbrev pub copied_named : (named k nq : ℕ) → (flow ordinates : List ℕ) → List ℕ
-copied_named named k nq flow ordinates = if named =? (k + 1) then copied_first nq flow ordinates else ordinates
+copied_named named k nq flow ordinates = when named =? (k + 1) then copied_first nq flow ordinates else ordinates

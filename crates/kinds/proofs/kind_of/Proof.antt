@@ -3,7 +3,7 @@ use Prim.Native.Nat.{ℕ}
 use mathlib.Core.Path.{◌≡◌, refl, sym, ◌∙◌, ap}
 use mathlib.Core.List.{List}
 use borrow.Author.Rules.{rules}
-use Rattle.meaning.specs.Words.{if◌then◌else◌}
+use Rattle.meaning.specs.Words.{when◌then◌else◌}
 use Rattle.meaning.specs.Blocks.{sets, kind_of}
 use Rattle.blocks.specs.Cards.{block_of}
 use Rattle.kinds.specs.Kinds.{kind_at, kind_by_mask, kind_by_none}
@@ -14,7 +14,7 @@ by_key_lem : (c : tie.After-mask_of) (k : ℕ) → c.mask_of.result ≡ k → (n
 by_key_lem c k e name = ap (kind_at sets) (sym e ∙ c.mask_of.ensures name) ∙ sym (kind_by_mask name c.args.cards.now)
 
 pub kind_of_spec : {M : Type 1} → statement M
-unfolding if◌then◌else◌
+unfolding when◌then◌else◌
 kind_of_spec =
     tie.close (tie.spec (λ c κs. search rules)
     (λ c. by_key_lem c.before _ c.in-15.is)

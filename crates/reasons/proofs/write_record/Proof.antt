@@ -4,7 +4,7 @@ use mathlib.Core.Path.{subst}
 use mathlib.Core.List.{List}
 use native.Mathlib.Omega.{arith}
 use borrow.Author.Rules.{rules}
-use Rattle.meaning.specs.Words.{if◌then◌else◌}
+use Rattle.meaning.specs.Words.{when◌then◌else◌}
 use Rattle.meaning.specs.Fields.{fields_of}
 use Rattle.fields.specs.Spans.{form_of}
 use Rattle.records.specs.Rows.{items}
@@ -28,11 +28,11 @@ write-fields-requires-3 : tie.Need-write_fields-requires-in-Of
 write-fields-requires-3 c κs = let s = entry c.before in (omega (arith, inside c.before), s.requires.1, s.requires.2)
 
 returns : tie.Need-returns-in-It
-unfolding if◌then◌else◌
+unfolding when◌then◌else◌
 returns c = rw c.in-It.is c.write_fields.ensures
 
 returns-2 : tie.Need-returns-in-Jr
-unfolding if◌then◌else◌
+unfolding when◌then◌else◌
 returns-2 c = rw c.in-Jr.is c.write_fields-in-Jr.ensures
 
 returns-3 : tie.Need-returns-in-Kk
