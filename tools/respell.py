@@ -33,6 +33,9 @@ PLAIN = set("a above all an any apart as at back before below both by each first
 LEMMAS = {"by_key", "fields_in", "form_in", "held_after", "over_by", "record_of", "rows_few"}
 # The module of one outcome has a name that Rattle makes itself.
 MODULE = ("Contracts", "OneOutcome")
+# The gate keeps the library's if .. then .. else for the library's own. This repository's choice by a test does not unfold by itself, and is called when.
+CHOICE = ("if◌then◌else◌", "when◌then◌else◌")
+IF = re.compile(r"(?<![\w.'◌-])if(?![\w'◌-])")
 # What port.py does to the words of edits' texts, which it does not read.
 OPERATORS = [(r"(?<![\w_])_([^\w\s,{}()_]+)_(?![\w_])", r"◌\1◌"), (r"\bif_then_else_", "if◌then◌else◌"), ("′", "'"), (r"Rattle·(\w+)·specs\.specs", r"Rattle.\1.specs"), (r"Rattle·(\w+)\.specs", r"Rattle.\1.specs")]
 
@@ -145,10 +148,50 @@ def clause(text: str) -> str:
     return fields(text)
 
 
+def spine(text: str, end: int) -> int:
+    """Where the application begins that ends at a place: its words and its parts in parentheses, back to an operator or a parenthesis around it."""
+    start = end
+    while start > 0:
+        at = start
+        if text[at - 1] == ")":
+            depth = 0
+            while at > 0:
+                at -= 1
+                depth += (text[at] == ")") - (text[at] == "(")
+                if depth == 0:
+                    break
+        else:
+            while at > 0 and re.match(r"[\w'.\-]", text[at - 1]):
+                at -= 1
+        if at == start or re.fullmatch(r"λ|\.|→", text[at:start]):
+            break
+        start = at
+        if start > 0 and text[start - 1] == " " and re.match(r"[\w')]", text[start - 2 : start - 1] or "("):
+            start -= 1
+        else:
+            break
+    return start + (len(text[start:]) - len(text[start:].lstrip()) if start < end else 0)
+
+
 def fields(text: str) -> str:
-    """Projections written tight, as in x.f, and without the parentheses that they needed before."""
-    text = re.sub(r" \.(\w+)", r".\1", text)
+    """Projections written tight, as in x.f. In the older text a projection stands behind the whole application: f x .g is (f x).g."""
+    while (match := re.search(r" \.(\w+)", text)) is not None:
+        begin = spine(text, match.start())
+        whole = text[begin : match.start()]
+        if " " in whole and not (whole.startswith("(") and whole.endswith(")") and whole.count("(") == 1):
+            whole = f"({whole})"
+        text = text[:begin] + whole + "." + match[1] + text[match.end() :]
     return re.sub(r"(?<=\s)\((\w+'*(?:\.\w+)+)\)", r"\1", text)
+
+
+def chosen(line: str, is_antt: bool) -> str:
+    """A line of a definition, a proof or a clause with the choice by a test under its own name; comments and code keep their if."""
+    at = line.find("--") if is_antt else len(line)
+    code, rest = (line[:at], line[at:]) if at >= 0 else (line, "")
+    if is_antt or re.match(r"\s*(requires|ensures)\b", line):
+        pieces = re.split(r'("(?:[^"\\]|\\.)*")', code)
+        code = "".join(piece if k % 2 else IF.sub("when", piece) for k, piece in enumerate(pieces))
+    return (code + rest).replace(*CHOICE)
 
 
 def turn_edit(text: str, new: dict[str, str]) -> str:
@@ -166,7 +209,7 @@ def turn_edit(text: str, new: dict[str, str]) -> str:
             elif of_antt:
                 rest = fields(rest)
             rest = respelled(rest, new, True)
-            line = head + sign + rest
+            line = head + sign + chosen(rest, of_antt)
         lines.append(line)
     return "\n".join(lines)
 
@@ -189,7 +232,11 @@ def main() -> None:
     new = names()
     for path in files((".antt", ".rt", ".edit")):
         text = read(path)
-        turned = turn_edit(text, new) if path.endswith(".edit") else respelled(text, new, path.endswith(".antt"))
+        if path.endswith(".edit"):
+            turned = turn_edit(text, new)
+        else:
+            is_antt = path.endswith(".antt")
+            turned = "\n".join(chosen(line, is_antt) for line in respelled(text, new, is_antt).split("\n"))
         if turned != text:
             write(path, turned)
     pages = ["README.md"] + [os.path.join(folder, name) for folder, _, names_in in os.walk("docs") for name in names_in if name.endswith(".md")]
