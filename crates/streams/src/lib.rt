@@ -1,5 +1,5 @@
 // Standard input and output of the programs: all of the input, or as bundles hold it, numbers of 4 bytes and decks of a known length; text
-// to the output. Where either fails, or the input ends too early, a line on standard error says so: a program has no exit status.
+// to the output. Where either fails, or the input ends too early, a line on standard error says so: a program's exit status is always 0.
 #![tactic(auto)]
 
 ghost use Rattle.std.specs.Prelude.{◌≡◌, ◌≤◌, length};
@@ -42,7 +42,7 @@ fn read_some(rt: &HostRuntime, s: &mut [u8]) -> Got
     }
 }
 
-// Reads until the slice is full, the input ends or a read fails. `read_exact` of std does not tell these two apart.
+// Reads until the slice is full, the input ends or a read fails. `read_exact` of std does not tell how many bytes came.
 pub fn read_all(rt: &HostRuntime, s: &mut [u8]) -> Got
     ensures { IsPrefixLen result.count s.new }
 {
