@@ -1629,6 +1629,51 @@ if command -v flock >/dev/null 2>&1; then
     try 'a second use while the first proves' 0 "$good_list" 'hec1: another start is proving the program; waiting for it\n' "$hec1" -q good.hc1
     wait
 fi
+
+# what ./test left in target/bin is taken as it is, unless a source is newer
+mkdir "$repository/target/bin"
+mv "$repository/target/command/hec1" "$repository/target/bin/"
+: >"$RUNS"
+try 'a program that the test left' 0 "$good_list" '' "$hec1" -q good.hc1
+holds 'a program that the test left: no run of rt' runs 0
+touch "$repository/crates/hec1/src/main.rt"
+"$hec1" -q good.hc1 >"$scratch/got" 2>/dev/null
+printf '%b' "$good_list" >"$scratch/expected"
+same 'a program that the test left, and a newer source' "$scratch/expected" "$scratch/got"
+holds 'a program that the test left, and a newer source: built again' runs 1
+
+# the programs of the comparison: proved where they are not there, and taken from what rt ci left where they are to be of its run
+rm -r "$repository/target"
+: >"$RUNS"
+sh "$repository/second/programs.sh" >"$scratch/out" 2>&1
+holds 'the programs of the comparison: status' test $? = 0
+printf '%s\n' 'bundle: run' 'hec1: run' >"$scratch/expected"
+same 'the programs of the comparison: runs' "$scratch/expected" "$RUNS"
+sh "$repository/second/programs.sh" >"$scratch/out" 2>&1
+holds 'the programs of the comparison, again: status' test $? = 0
+holds 'the programs of the comparison, again: no run of rt' runs 2
+: >"$scratch/stamp"
+sh "$repository/second/programs.sh" --of-gate "$scratch/stamp" >"$scratch/out" 2>&1
+holds 'programs of the gate, an older one: status' test $? = 2
+echo 'programs.sh: rt ci built no program bundle' >"$scratch/expected"
+same 'programs of the gate, an older one: words' "$scratch/expected" "$scratch/out"
+holds 'programs of the gate, an older one: it is gone' test ! -e "$repository/target/bin/bundle"
+sleep 0.1
+touch "$repository/crates/bundle/out/bundle" "$repository/crates/hec1/out/hec1"
+sh "$repository/second/programs.sh" --of-gate "$scratch/stamp" >"$scratch/out" 2>&1
+holds 'programs of the gate: status' test $? = 0
+holds 'programs of the gate: no run of rt' runs 2
+for one in bundle hec1; do
+    same "programs of the gate: $one" "$repository/crates/$one/out/$one" "$repository/target/bin/$one"
+    holds "programs of the gate: the time of $one" test -z "$(find "$repository/target/bin/$one" -newer "$scratch/stamp")"
+done
+: >"$repository/fault"
+rm -r "$repository/target"
+sh "$repository/second/programs.sh" bundle >"$scratch/out" 2>&1
+holds 'a program of the comparison that is not proved: status' test $? = 2
+holds 'a program of the comparison that is not proved: words' grep -q '^what was wrong$' "$scratch/out"
+holds 'a program of the comparison that is not proved: none' test ! -e "$repository/target/bin/bundle"
+rm "$repository/fault"
 rm -r "$repository/target"
 : >"$repository/target"
 try 'a file in the place of target' 2 '' "hec1: cannot write to $repository/target/command\n" "$hec1" good.hc1
