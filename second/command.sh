@@ -572,15 +572,13 @@ with 'a full device, several files' 2 'hec1: standard output: cannot be written 
 with 'a full device, a bundle' 2 'hec1: standard output: cannot be written to\n' '"$hec1" --bundle good.hc1 >/dev/full'
 if [ -n "$proved" ]; then
     # the proved programs by themselves: a line on standard error, and nothing that could be taken for a listing
-    find_kit || { echo "command.sh: $no_kit" >&2; exit 2; }
     made=$root/target/command
-    by_hand="${emulator:+$emulator }$loader --library-path $tools/lib"
-    with 'hec1: a folder as standard input' 0 'INPUT FAILED\n' "$by_hand $made/hec1 <."
+    with 'hec1: a folder as standard input' 0 'INPUT FAILED\n' "$made/hec1 <."
     holds 'hec1: a folder as standard input: no listing' test ! -s "$scratch/out"
-    with 'hec1: a full device' 0 'OUTPUT FAILED\n' "$by_hand $made/hec1 >/dev/full"
-    with 'bundle: a folder as standard input' 0 'INPUT FAILED\n' "$by_hand $made/bundle <."
+    with 'hec1: a full device' 0 'OUTPUT FAILED\n' "$made/hec1 >/dev/full"
+    with 'bundle: a folder as standard input' 0 'INPUT FAILED\n' "$made/bundle <."
     holds 'bundle: a folder as standard input: no listing' test ! -s "$scratch/out"
-    with 'bundle: a full device' 0 'OUTPUT FAILED\n' "$by_hand $made/bundle <'$root/crates/bundle/stdin' >/dev/full"
+    with 'bundle: a full device' 0 'OUTPUT FAILED\n' "$made/bundle <'$root/crates/bundle/stdin' >/dev/full"
 fi
 
 # ---- warnings
@@ -968,12 +966,12 @@ if [ -n "$proved" ]; then
     case_of 1 0 basin.hc1 >"$scratch/case"
     head -c 40 "$scratch/case" >"$scratch/cut"
     head -c 9 "$scratch/case" >"$scratch/shorter"
-    with 'sheet: a folder as standard input' 0 'INPUT FAILED\n' "$by_hand $made/sheet <."
+    with 'sheet: a folder as standard input' 0 'INPUT FAILED\n' "$made/sheet <."
     holds 'sheet: a folder as standard input: no sheet' test ! -s "$scratch/out"
-    with 'sheet: a full device' 0 'OUTPUT FAILED\n' "$by_hand $made/sheet <'$scratch/case' >/dev/full"
-    with 'sheet: a case that ends inside its deck' 0 'INPUT CUT\n' "$by_hand $made/sheet <'$scratch/cut'"
-    with 'sheet: a case that ends inside a number' 0 'INPUT CUT\n' "$by_hand $made/sheet <'$scratch/shorter'"
-    with 'sheet: a case' 0 '' "$by_hand $made/sheet <'$scratch/case'"
+    with 'sheet: a full device' 0 'OUTPUT FAILED\n' "$made/sheet <'$scratch/case' >/dev/full"
+    with 'sheet: a case that ends inside its deck' 0 'INPUT CUT\n' "$made/sheet <'$scratch/cut'"
+    with 'sheet: a case that ends inside a number' 0 'INPUT CUT\n' "$made/sheet <'$scratch/shorter'"
+    with 'sheet: a case' 0 '' "$made/sheet <'$scratch/case'"
     printf '%b--\n' "$up" >"$scratch/expected"
     same 'sheet: a case: its text' "$scratch/expected" "$scratch/out"
 fi
@@ -1091,12 +1089,12 @@ done
 printf '#!/bin/sh\nif [ "${1:-}" != --hydrograph ]; then exec "%s"; fi\ncat >/dev/null\necho OUTPUT FAILED >&2\n' "$second" >"$scratch/broken"
 try 'a hydrograph of a program that cannot write' 2 '' 'hec1: -: the output cannot be written\n' "$root/hec1" --program "$scratch/broken" --hydrograph UP
 if [ -n "$proved" ]; then
-    with 'hydrograph: a folder as standard input' 0 'INPUT FAILED\n' "$by_hand $made/hydrograph <."
+    with 'hydrograph: a folder as standard input' 0 'INPUT FAILED\n' "$made/hydrograph <."
     holds 'hydrograph: a folder as standard input: no hydrograph' test ! -s "$scratch/out"
-    with 'hydrograph: a full device' 0 'OUTPUT FAILED\n' "$by_hand $made/hydrograph <'$scratch/case' >/dev/full"
-    with 'hydrograph: a case that ends inside its deck' 0 'INPUT CUT\n' "$by_hand $made/hydrograph <'$scratch/cut'"
-    with 'hydrograph: a case that ends inside a number' 0 'INPUT CUT\n' "$by_hand $made/hydrograph <'$scratch/shorter'"
-    with 'hydrograph: a case' 0 '' "$by_hand $made/hydrograph <'$scratch/case'"
+    with 'hydrograph: a full device' 0 'OUTPUT FAILED\n' "$made/hydrograph <'$scratch/case' >/dev/full"
+    with 'hydrograph: a case that ends inside its deck' 0 'INPUT CUT\n' "$made/hydrograph <'$scratch/cut'"
+    with 'hydrograph: a case that ends inside a number' 0 'INPUT CUT\n' "$made/hydrograph <'$scratch/shorter'"
+    with 'hydrograph: a case' 0 '' "$made/hydrograph <'$scratch/case'"
     printf '%b--\n' "$up_flow" >"$scratch/expected"
     same 'hydrograph: a case: its text' "$scratch/expected" "$scratch/out"
 fi
@@ -1419,26 +1417,26 @@ installed() {
         "$hec1" $words <good.hc1 >"$scratch/out" 2>"$scratch/err"
         { echo "status $?"; cat "$scratch/out"; echo '-- err'; cat "$scratch/err"; } >"$scratch/expected"
         # shellcheck disable=SC2086
-        env -u RATTLE_HOME PATH="$scratch/nothing" "$alone" $words <good.hc1 >"$scratch/out" 2>"$scratch/err"
+        env PATH="$scratch/nothing" "$alone" $words <good.hc1 >"$scratch/out" 2>"$scratch/err"
         { echo "status $?"; cat "$scratch/out"; echo '-- err'; cat "$scratch/err"; } >"$scratch/got"
         same "$title: $words" "$scratch/expected" "$scratch/got"
     done
     "$hec1" --hydrographs "$scratch/one" three.hc1 2>/dev/null
-    env -u RATTLE_HOME PATH="$scratch/nothing" "$alone" --hydrographs "$scratch/two" three.hc1 2>/dev/null
+    env PATH="$scratch/nothing" "$alone" --hydrographs "$scratch/two" three.hc1 2>/dev/null
     holds "$title: the hydrographs" diff -r "$scratch/one" "$scratch/two"
     rm -rf "$scratch/one" "$scratch/two" apart
-    env -u RATTLE_HOME PATH="$scratch/nothing" "$alone" --install "$scratch/again" >"$scratch/out" 2>&1
+    env PATH="$scratch/nothing" "$alone" --install "$scratch/again" >"$scratch/out" 2>&1
     holds "$title: no second installation: status" test $? = 2
     echo 'hec1: --install: this command is installed itself; use the one in the repository' >"$scratch/expected"
     same "$title: no second installation" "$scratch/expected" "$scratch/out"
     holds "$title: no second installation: no folder" test ! -e "$scratch/again"
     rm "${alone%/bin/hec1}/lib/evzorkhum/programs/sheet"
-    env -u RATTLE_HOME PATH="$scratch/nothing" "$alone" --sheet UP basin.hc1 >"$scratch/out" 2>&1
+    env PATH="$scratch/nothing" "$alone" --sheet UP basin.hc1 >"$scratch/out" 2>&1
     holds "$title: a program is missing: status" test $? = 2
     echo "hec1: $(CDPATH="" cd -- "${alone%/bin/hec1}" && pwd -P)/lib/evzorkhum/programs/sheet is missing; install the command again" >"$scratch/expected"
     same "$title: a program is missing" "$scratch/expected" "$scratch/out"
     rm "${alone%/bin/hec1}/lib/evzorkhum/programs/reason"
-    env -u RATTLE_HOME PATH="$scratch/nothing" "$alone" pond.hc1 >"$scratch/out" 2>&1
+    env PATH="$scratch/nothing" "$alone" pond.hc1 >"$scratch/out" 2>&1
     holds "$title: the program for closer words is missing: status" test $? = 1
     {
         printf '%b' "$bad_list"
@@ -1455,60 +1453,62 @@ if [ -n "$proved" ]; then
     "$hec1" --install "$scratch/here" >"$scratch/out" 2>"$scratch/err"
     holds 'installed: status' test $? = 0
     mv "$scratch/here" "$scratch/there"
+    # what an installed program is linked with: the C library and its loader, which every machine has, and nothing of the kit
+    for program in bundle hec1 hydrograph reason sheet store; do
+        ldd "$scratch/there/lib/evzorkhum/programs/$program" 2>&1 | awk '{ sub(/.*\//, "", $1); print $1 }' | grep -v '^linux-vdso' | LC_ALL=C sort >"$scratch/got"
+        printf '%s\n' ld-linux-x86-64.so.2 libc.so.6 >"$scratch/expected"
+        same "installed: $program wants the C library alone" "$scratch/expected" "$scratch/got"
+    done
     installed 'installed' "$scratch/there/bin/hec1"
 else
     try 'only proved programs are installed' 2 '' 'hec1: --install: only proved programs are installed\n' "$hec1" --install "$scratch/here"
     holds 'only proved programs are installed: no folder' test ! -e "$scratch/here"
 fi
 
+# The stand-in says what rt says, a crate that is kept in nothing, and ends with a line that has no end; the program that it makes is started by it too,
+# as rt does. Files in the repository have it fail, or end well with no program.
 kit=$scratch/kit
-libraries=$kit/on/$(uname -m)/toolchain/lib
 repository="$scratch/a repository"
-mkdir -p "$kit/bin" "$libraries" "$repository/crates/hec1/src" "$repository/second" "$repository/command"
+mkdir -p "$kit/bin" "$repository/second" "$repository/command"
+for one in base middle other hec1 bundle store sheet hydrograph reason; do mkdir -p "$repository/crates/$one/src"; done
 cp "$root/hec1" "$repository/"
 cp "$root/command/"*.sh "$repository/command/"
-cp "$root/second/kit.sh" "$repository/second/"
+cp "$root/second/kit.sh" "$root/second/programs.sh" "$repository/second/"
 printf '%s\n' '# NAME: what it stands on' 'base:' 'middle: base io libc' 'other: base' 'hec1: middle' 'bundle: middle other bytes' 'store: base' \
     'sheet: other' 'hydrograph: other' 'reason: other' >"$repository/crates.txt"
-echo '// a source' >"$repository/crates/hec1/src/main.rt"
+for one in hec1 bundle; do echo '// a source' >"$repository/crates/$one/src/main.rt"; done
 cat >"$kit/bin/rt" <<'END'
 #!/bin/sh
 if [ "$1" = version ]; then
     echo 'a stand-in for the kit'
     exit 0
 fi
-echo "$*" >>"$RUNS"
-echo 'rt: base proved (unchanged since it was last proved)'
-echo 'fn middle::something: proved'
-echo 'rt: middle proved (12 s)'
-sleep "${PAUSE:-0.2}"
-if [ -f fault ]; then
-    echo 'what was wrong'
-    exit 1
-fi
-if [ -f hollow ]; then exit 0; fi
-mkdir -p target/bin
-case $2 in hec1) option= ;; *) option=--$2 ;; esac
-printf '#!/bin/sh\nexec "%s" %s\n' "$SECOND" "$option" >"target/bin/$2"
-chmod +x "target/bin/$2"
-echo "rt: $2 proved (3 s)"
-printf 'rt: ok, all proved'
+name=${PWD##*/}
+echo "$name: $*" >>"$RUNS"
+{
+    echo 'only=0 proved=0'
+    if [ ! -f ../../kept ]; then
+        printf '%s\n' 'rt: chose --jobs 2 for base' 'fn base::something: proved' 'crate base: modules loaded=0 checked=40' 'logic=proved functions=1 native=nat'
+    fi
+    printf '%s\n' 'fn middle::something: proved' 'library base: modules loaded=0 checked=0' 'crate middle: modules loaded=0 checked=12' 'logic=proved functions=9 native=nat'
+    sleep "${PAUSE:-0.2}"
+    if [ -f ../../fault ]; then
+        echo 'what was wrong'
+        exit 1
+    fi
+    if [ -f ../../hollow ]; then exit 0; fi
+    mkdir -p out
+    case $name in hec1) option= ;; *) option=--$name ;; esac
+    printf '#!/bin/sh\nexec "%s" %s\n' "$SECOND" "$option" >"out/$name"
+    chmod +x "out/$name"
+    printf '%s\n' "crate $name: modules loaded=0 checked=220" 'logic=proved functions=7 axioms=8 target=x86_64' "linked files=out/$name.o"
+    printf 'rt: running %s' "out/$name"
+} >&2
+exec "out/$name"
 END
-cat >"$libraries/ld-linux-x86-64.so.2" <<'END'
-#!/bin/sh
-folder=$2
-shift 2
-if [ "$1" = --list ]; then
-    printf '\tlinux-vdso.so.1 (0x1)\n\tlibc.so.6 => %s/libc.so.6 (0x1)\n\t/lib64/ld-linux-x86-64.so.2 => %s/ld-linux-x86-64.so.2 (0x1)\n' "$folder" "$folder"
-    exit 0
-fi
-exec "$@"
-END
-echo 'a library' >"$libraries/libc.so.6"
-echo 'another' >"$libraries/libm.so.6"
-chmod +x "$kit/bin/rt" "$libraries/ld-linux-x86-64.so.2"
-RUNS=$scratch/runs SECOND=$second RATTLE_HOME=$kit PATH=$kit/bin:$PATH
-export RUNS SECOND RATTLE_HOME PATH
+chmod +x "$kit/bin/rt"
+RUNS=$scratch/runs SECOND=$second PATH=$kit/bin:$PATH
+export RUNS SECOND PATH
 : >"$RUNS"
 runs() { [ "$(grep -c . "$RUNS")" = "$1" ]; }
 hec1=$repository/hec1
@@ -1521,8 +1521,17 @@ printf '%s\n' "hec1: proving and building hec1, which takes a while (log: $log)"
     'hec1: hec1 is proved and built (N s)' >"$scratch/expected"
 sed 's/([0-9]* s)/(N s)/' "$scratch/err" >"$scratch/got"
 same 'first use: words' "$scratch/expected" "$scratch/got"
-printf '%s\n' 'rt: base proved (unchanged since it was last proved)' 'fn middle::something: proved' 'rt: middle proved (12 s)' \
-    'rt: hec1 proved (3 s)' 'rt: ok, all proved' >"$scratch/expected"
+# what the stand-in says before it can fail
+of_below() {
+    printf '%s\n' 'only=0 proved=0' 'rt: chose --jobs 2 for base' 'fn base::something: proved' 'crate base: modules loaded=0 checked=40' \
+        'logic=proved functions=1 native=nat' 'fn middle::something: proved' 'library base: modules loaded=0 checked=0' \
+        'crate middle: modules loaded=0 checked=12' 'logic=proved functions=9 native=nat'
+}
+{
+    of_below
+    printf '%s\n' 'crate hec1: modules loaded=0 checked=220' 'logic=proved functions=7 axioms=8 target=x86_64' 'linked files=out/hec1.o' \
+        'rt: running out/hec1'
+} >"$scratch/expected"
 same 'first use: the log' "$scratch/expected" "$log"
 holds 'first use: one run of rt' runs 1
 try 'second use' 0 "$good_list" '' "$hec1" --quiet good.hc1
@@ -1537,7 +1546,8 @@ same 'no program for closer words: listings' "$scratch/expected" "$scratch/got"
 holds 'no program for closer words: it is tried once' runs 2
 {
     printf '%s\n' 'hec1: which field is refused is told by one more program' "hec1: proving and building reason, which takes a while (log: ${log%hec1.log}reason.log)"
-    printf '%s\n' 'rt: base proved (unchanged since it was last proved)' 'fn middle::something: proved' 'rt: middle proved (12 s)' 'what was wrong'
+    of_below
+    echo 'what was wrong'
     echo "hec1: reason was not proved and built; all of the log is in ${log%hec1.log}reason.log"
     for one in 1 2; do echo 'pond.hc1:7: value outside its limits (refusal 7): PI 25.0'; done
 } >"$scratch/expected"
@@ -1550,7 +1560,7 @@ printf '%b' 'hec1: which field is refused is told by one more program\n' "hec1: 
     "hec1: reason is proved and built (N s)\n-$bad_words" >"$scratch/expected"
 sed 's/([0-9]* s)/(N s)/' "$scratch/err" >"$scratch/got"
 same 'the program for closer words: words' "$scratch/expected" "$scratch/got"
-holds 'the program for closer words: by its name' test "$(tail -n 1 "$RUNS")" = 'check reason'
+holds 'the program for closer words: by its name' test "$(tail -n 1 "$RUNS")" = 'reason: run'
 try 'second use, standard input' 1 "$bad_list" "-$bad_words" "$hec1"
 holds 'second use, refused: no run of rt' runs 3
 input ''
@@ -1562,6 +1572,11 @@ touch "$repository/crates.txt"
 holds 'crates.txt is newer: built again' runs 5
 try 'and then no more' 0 "$good_list" '' "$hec1" -q good.hc1
 holds 'and then no more: runs' runs 5
+rm -r "$repository/crates/hec1/out"
+mkdir "$repository/crates/hec1/out" "$repository/crates/base/out"
+echo 'what a check keeps' >"$repository/crates/base/out/kept"
+try 'what rt keeps is no source' 0 "$good_list" '' "$hec1" -q good.hc1
+holds 'what rt keeps is no source: runs' runs 5
 echo '// another' >"$repository/crates/hec1/src/new.rt"
 : >"$repository/fault"
 "$hec1" good.hc1 >"$scratch/out" 2>"$scratch/err"
@@ -1576,11 +1591,11 @@ holds 'the next build: runs' runs 7
 "$hec1" --bundle good.hc1 >"$scratch/got" 2>/dev/null
 printf '%b--\n' "$good_list" >"$scratch/expected"
 same 'the program for bundles is built too' "$scratch/expected" "$scratch/got"
-holds 'the program for bundles: by its name' test "$(tail -n 1 "$RUNS")" = 'check bundle'
+holds 'the program for bundles: by its name' test "$(tail -n 1 "$RUNS")" = 'bundle: run'
 "$hec1" --sheet UP basin.hc1 >"$scratch/got" 2>/dev/null
 printf '%b' "$up" >"$scratch/expected"
 same 'the program for sheets is built too' "$scratch/expected" "$scratch/got"
-holds 'the program for sheets: by its name' test "$(tail -n 1 "$RUNS")" = 'check sheet'
+holds 'the program for sheets: by its name' test "$(tail -n 1 "$RUNS")" = 'sheet: run'
 
 # warnings want the program for hydrographs; where it is not built there are none of what flows, and the status stays
 : >"$repository/fault"
@@ -1598,7 +1613,7 @@ printf '%b' 'hec1: warnings want one more program; --quiet does without\n' "hec1
     "hec1: hydrograph is proved and built (N s)\n$short_words" >"$scratch/expected"
 sed 's/([0-9]* s)/(N s)/' "$scratch/err" >"$scratch/got"
 same 'the program for warnings: words' "$scratch/expected" "$scratch/got"
-holds 'the program for warnings: by its name' test "$(tail -n 1 "$RUNS")" = 'check hydrograph'
+holds 'the program for warnings: by its name' test "$(tail -n 1 "$RUNS")" = 'hydrograph: run'
 try 'the program for hydrographs' 0 "$out_flow" '' "$hec1" --hydrograph OUT basin.hc1
 holds 'the program for hydrographs: no run of rt' runs 11
 if command -v flock >/dev/null 2>&1; then
@@ -1614,10 +1629,55 @@ if command -v flock >/dev/null 2>&1; then
     try 'a second use while the first proves' 0 "$good_list" 'hec1: another start is proving the program; waiting for it\n' "$hec1" -q good.hc1
     wait
 fi
+
+# what ./test left in target/bin is taken as it is, unless a source is newer
+mkdir "$repository/target/bin"
+mv "$repository/target/command/hec1" "$repository/target/bin/"
+: >"$RUNS"
+try 'a program that the test left' 0 "$good_list" '' "$hec1" -q good.hc1
+holds 'a program that the test left: no run of rt' runs 0
+touch "$repository/crates/hec1/src/main.rt"
+"$hec1" -q good.hc1 >"$scratch/got" 2>/dev/null
+printf '%b' "$good_list" >"$scratch/expected"
+same 'a program that the test left, and a newer source' "$scratch/expected" "$scratch/got"
+holds 'a program that the test left, and a newer source: built again' runs 1
+
+# the programs of the comparison: proved where they are not there, and taken from what rt ci left where they are to be of its run
+rm -r "$repository/target"
+: >"$RUNS"
+sh "$repository/second/programs.sh" >"$scratch/out" 2>&1
+holds 'the programs of the comparison: status' test $? = 0
+printf '%s\n' 'bundle: run' 'hec1: run' >"$scratch/expected"
+same 'the programs of the comparison: runs' "$scratch/expected" "$RUNS"
+sh "$repository/second/programs.sh" >"$scratch/out" 2>&1
+holds 'the programs of the comparison, again: status' test $? = 0
+holds 'the programs of the comparison, again: no run of rt' runs 2
+: >"$scratch/stamp"
+sh "$repository/second/programs.sh" --of-gate "$scratch/stamp" >"$scratch/out" 2>&1
+holds 'programs of the gate, an older one: status' test $? = 2
+echo 'programs.sh: rt ci built no program bundle' >"$scratch/expected"
+same 'programs of the gate, an older one: words' "$scratch/expected" "$scratch/out"
+holds 'programs of the gate, an older one: it is gone' test ! -e "$repository/target/bin/bundle"
+sleep 0.1
+touch "$repository/crates/bundle/out/bundle" "$repository/crates/hec1/out/hec1"
+sh "$repository/second/programs.sh" --of-gate "$scratch/stamp" >"$scratch/out" 2>&1
+holds 'programs of the gate: status' test $? = 0
+holds 'programs of the gate: no run of rt' runs 2
+for one in bundle hec1; do
+    same "programs of the gate: $one" "$repository/crates/$one/out/$one" "$repository/target/bin/$one"
+    holds "programs of the gate: the time of $one" test -z "$(find "$repository/target/bin/$one" -newer "$scratch/stamp")"
+done
+: >"$repository/fault"
+rm -r "$repository/target"
+sh "$repository/second/programs.sh" bundle >"$scratch/out" 2>&1
+holds 'a program of the comparison that is not proved: status' test $? = 2
+holds 'a program of the comparison that is not proved: words' grep -q '^what was wrong$' "$scratch/out"
+holds 'a program of the comparison that is not proved: none' test ! -e "$repository/target/bin/bundle"
+rm "$repository/fault"
 rm -r "$repository/target"
 : >"$repository/target"
 try 'a file in the place of target' 2 '' "hec1: cannot write to $repository/target/command\n" "$hec1" good.hc1
-rm "$repository/target"
+rm -r "$repository/target" "$repository/crates/hec1/out"
 : >"$repository/hollow"
 "$hec1" good.hc1 >"$scratch/out" 2>"$scratch/err"
 holds 'a kit that makes no program: status' test $? = 2
@@ -1641,6 +1701,15 @@ for step in 16 31; do
     } >"$scratch/expected"
     same "how far a proof is, by $step seconds" "$scratch/expected" "$scratch/got"
 done
+# of a crate that is kept rt says nothing: the next is told by its place all the same
+: >"$repository/kept"
+rm -rf "$repository/target"
+echo 1000 >"$scratch/time"
+STEP=31 PATH=$scratch/clock:$PATH "$hec1" -q good.hc1 2>&1 >/dev/null | grep crates >"$scratch/got"
+printf 'hec1: proving hec1: %s\n' '2 of 3 crates (middle)' '3 of 3 crates (hec1)' >"$scratch/expected"
+same 'how far a proof is, where a crate is kept' "$scratch/expected" "$scratch/got"
+rm "$repository/kept"
+rm -rf "$repository/target"
 for program in bundle:4 store:2 sheet:3 hydrograph:3 reason:3; do
     echo 1000 >"$scratch/time"
     STEP=31 PATH=$scratch/clock:$PATH "$hec1" --install "$scratch/here" >/dev/null 2>"$scratch/err"
@@ -1694,13 +1763,13 @@ same 'installed by the stand-in: the command in the repository stays' "$scratch/
 (cd "$scratch/here" && find . -type f | LC_ALL=C sort) >"$scratch/got"
 printf './%s\n' bin/hec1 lib/evzorkhum/command/deck.sh lib/evzorkhum/command/network.sh lib/evzorkhum/command/picture.sh lib/evzorkhum/command/plot.sh \
     lib/evzorkhum/command/table.sh lib/evzorkhum/kit lib/evzorkhum/kit.sh lib/evzorkhum/programs/bundle lib/evzorkhum/programs/hec1 lib/evzorkhum/programs/hydrograph \
-    lib/evzorkhum/programs/reason lib/evzorkhum/programs/sheet lib/evzorkhum/programs/store lib/evzorkhum/tools/lib/ld-linux-x86-64.so.2 lib/evzorkhum/tools/lib/libc.so.6 lib/other >"$scratch/expected"
+    lib/evzorkhum/programs/reason lib/evzorkhum/programs/sheet lib/evzorkhum/programs/store lib/other >"$scratch/expected"
 same 'installed by the stand-in: its files' "$scratch/expected" "$scratch/got"
 try 'installed once more' 0 '' "hec1: $(CDPATH="" cd -- "$scratch/here" && pwd -P)/bin/hec1 is installed\n" "$hec1" --install "$scratch/here"
 mkdir "$scratch/to the"
 mv "$scratch/here" "$scratch/to the/there"
 ln -s "$scratch/to the/there/bin/hec1" "$scratch/hec1-link"
-try 'installed, by a link' 1 "$bad_list" "pond.hc1$bad_words" env -u RATTLE_HOME PATH="$scratch/nothing" "$scratch/hec1-link" pond.hc1
+try 'installed, by a link' 1 "$bad_list" "pond.hc1$bad_words" env PATH="$scratch/nothing" "$scratch/hec1-link" pond.hc1
 mv "$repository" "$scratch/aside"
 repository=$scratch/aside
 hec1=$repository/hec1
@@ -1720,11 +1789,11 @@ mv "$repository/command/table.sh" "$scratch/table.sh"
 try 'a command without one of its parts' 2 '' "hec1: $repository/command/table.sh is missing\n" "$hec1" --table good.hc1
 mv "$scratch/table.sh" "$repository/command/table.sh"
 
-env -u RATTLE_HOME PATH="$scratch/nothing" "$hec1" good.hc1 >"$scratch/out" 2>"$scratch/err"
+env PATH="$scratch/nothing" "$hec1" good.hc1 >"$scratch/out" 2>"$scratch/err"
 holds 'without the kit: status' test $? = 2
 echo 'hec1: the Rattle kit is missing: there is no command rt' >"$scratch/expected"
 same 'without the kit' "$scratch/expected" "$scratch/err"
-try 'the version without the kit' 0 "hec1: Evzorkhum, document 01 with change requests 1 to $requests\n" '' env -u RATTLE_HOME PATH="$scratch/nothing" "$hec1" --version
+try 'the version without the kit' 0 "hec1: Evzorkhum, document 01 with change requests 1 to $requests\n" '' env PATH="$scratch/nothing" "$hec1" --version
 try 'the version with the kit' 0 "hec1: Evzorkhum, document 01 with change requests 1 to $requests\na stand-in for the kit\n" '' "$hec1" --version
 
 echo "$passed passed, $failed failed"

@@ -53,15 +53,13 @@ sh "$root/second/build.sh" || die "the second program was not built"
 sh "$root/second/build-decks.sh" || die "the deck writer was not built"
 
 if [ -z "$program" ]; then
-    find_kit || die "$no_kit"
-    (cd "$root" && "$rt" check hec1 bundle rooms mover sheet hydrograph reason) >"$work/log" 2>&1 ||
-        { tail -n 5 "$work/log" >&2; die "the programs were not proved and built"; }
+    sh "$root/second/programs.sh" hec1 bundle rooms mover sheet hydrograph reason || die "the programs were not proved and built"
 fi
 
 # proved NAME: starts a proved program; these have no exit status of their own
 proved() {
     if [ -z "$program" ]; then
-        start "$root/target/bin/$1"
+        "$root/target/bin/$1"
     else
         case $1 in
         bundle) "$program" --bundle ;;

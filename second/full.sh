@@ -4,7 +4,6 @@
 # that the ordinates of the named block under the named ratio (0, the last, where none is named), as the second program does with these words.
 set -eu
 root=$(CDPATH="" cd -- "$(dirname -- "$0")/.." && pwd -P)
-. "$root/second/kit.sh"
 named=0
 ratio=0
 usage() { sed -n '2,/^set/s/^# \{0,1\}//p' "$0" >&2; exit 2; }
@@ -18,8 +17,7 @@ while [ $# -gt 0 ]; do
     esac
     shift 2
 done
-find_kit || { echo "full.sh: $no_kit" >&2; exit 2; }
-[ -x "$root/target/bin/rooms" ] || { echo "full.sh: target/bin/rooms is missing: rt check rooms builds it" >&2; exit 2; }
+[ -x "$root/target/bin/rooms" ] || { echo "full.sh: target/bin/rooms is missing: second/programs.sh puts it there" >&2; exit 2; }
 deck=$(mktemp)
 trap 'rm -f "$deck"' EXIT
 cat >"$deck"
@@ -30,4 +28,4 @@ four() {
     printf "$(printf '\\%03o\\%03o\\%03o\\%03o' $(($1 % 256)) $(($1 / 256 % 256)) $(($1 / 65536 % 256)) $(($1 / 16777216)))"
 }
 # the block, the ratio, the work words, the ordinates, the record bytes, the deck's length, and the deck
-{ four "$named"; four "$ratio"; four 6000; four 300; four 72000; four $(($(wc -c <"$deck"))); cat "$deck"; } | start "$root/target/bin/rooms"
+{ four "$named"; four "$ratio"; four 6000; four 300; four 72000; four $(($(wc -c <"$deck"))); cat "$deck"; } | "$root/target/bin/rooms"
