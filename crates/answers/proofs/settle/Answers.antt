@@ -12,4 +12,4 @@ pub returns : goal.returns
 returns c =
     let x = c.args in
     passed _ (sym c.lacks_room.ensures ∙ c.if-lacks_room.false)
-    (zeros_accept x.nq x.blocks x.ratios x.work.now _ x.ordinates.now x.records.now c.zero_words.ensures)
+    (zeros_accept x.found.ordinates x.found.blocks x.found.ratios x.work.now _ x.ordinates.now x.records.now c.zero_words.ensures)
