@@ -49,9 +49,9 @@ pub fn size_refusal(work: usize, deck: usize) -> Result<(), Refusal>
 pub fn refuse(reason: Refused, words: &mut [u64], flows: &mut [u64], bytes: &mut [u8]) -> Answer
     ensures { outcome_is result words.new flows.new bytes.new ≡ refused (refusal_number reason.refusal) reason.line (lent_as words.old flows.old bytes.old) }
 {
-    slices::zero_words(words);
-    slices::zero_words(flows);
-    slices::fill_bytes(bytes, 0);
+    words.fill(0);
+    flows.fill(0);
+    bytes.fill(0);
     Err(reason)
 }
 
@@ -84,6 +84,6 @@ pub fn settle(
         };
         return refuse(reason, work, ordinates, records);
     }
-    slices::zero_words(work);
+    work.fill(0);
     Ok(found)
 }
