@@ -1,14 +1,25 @@
 -- Of two rounds what is met first, as the code tells it.
-use Rattle.std.specs.Prelude.{Bool, true, false}
+use Rattle.std.specs.Prelude.{ℕ, Bool, true, false, Result, Ok, Err}
+use Rattle.refusals.specs.declared.Refused.{Refused}
+use Rattle.refusals.specs.Numbers.{refusal_number}
 use Rattle.passes.specs.Apart.{comes_first}
 use Rattle.turns.specs.declared.Worked.{Worked}
 
--- of two rounds: by whether the next one and the one found are refused, and which comes first then
-abbrev pub sooner_by : (next found first : Bool) → Worked → Worked → Worked
-sooner_by false found first w v = w
-sooner_by true false first w v = v
-sooner_by true true true w v = w
-sooner_by true true false w v = v
+-- of two refusals, by whether the first one comes first
+abbrev pub sooner_by : Bool → (r s : Refused) → Result Worked Refused
+sooner_by true r s = Err r
+sooner_by false r s = Err s
 
-abbrev pub sooner_of : Worked → Worked → Worked
-sooner_of w v = sooner_by v.refused w.refused (comes_first w.number w.line v.number v.line) w v
+abbrev pub first_of : (r s : Refused) → Bool
+first_of r s = comes_first (refusal_number r.refusal) r.line (refusal_number s.refusal) s.line
+
+-- of the round found, and the next one
+abbrev pub sooner_of : (w v : Result Worked Refused) → Result Worked Refused
+sooner_of w (Ok v) = w
+sooner_of (Ok w) (Err s) = Err s
+sooner_of (Err r) (Err s) = sooner_by (first_of r s) r s
+
+-- the blocks of a sound deck; of a refused one none
+abbrev pub blocks_in : Result Worked Refused → ℕ
+blocks_in (Ok w) = w.blocks
+blocks_in (Err r) = 0

@@ -2,12 +2,15 @@
 --     StateBegins            where the walk begins
 --     Stops, GoesOn          the deck is refused, or the next block is opened
 --     OpensNext, EndsDeck    which of the ways it is, by the refusal of the block that is closed, and what then stands in the way
-use Rattle.std.specs.Prelude.{ℕ, zero, suc, ◌+◌, ◌-◌, ◌*◌, ◌≤◌, ◌<◌, ◌≡◌, refl, true, false, List, ◌⊎◌}
+use Rattle.std.specs.Prelude.{ℕ, zero, suc, ◌+◌, ◌-◌, ◌*◌, ◌≤◌, ◌<◌, ◌≡◌, refl, List, ◌⊎◌, Result, Ok, Err}
 use Rattle.std.proofs.Common.{ap, inl, inr, ⊎_elim, arith}
 use Rattle.sequences.specs.Parts.{part}
 use Rattle.meaning.specs.Words.{◌=?◌, when◌then◌else◌}
 use Rattle.meaning.specs.Records.{most_ordinates}
 use Rattle.meaning.specs.Run.{most_blocks}
+use Rattle.refusals.specs.declared.Refusal.{Refusal}
+use Rattle.refusals.specs.declared.Refused.{Refused}
+use Rattle.refusals.specs.Numbers.{refusal_number, refusal_in}
 use Rattle.blocks.specs.declared.Name.{Name}
 use Rattle.placing.specs.declared.Reading.{Reading}
 use Rattle.placing.specs.Readings.{Begins, Opens}
@@ -16,8 +19,6 @@ use Rattle.stack.specs.View.{none_held}
 use Rattle.writing.specs.WrittenResult.{copied_first}
 use Rattle.turns.specs.declared.State.{State}
 use Rattle.turns.specs.declared.Worked.{Worked}
-use Rattle.turns.specs.declared.Turn.{Turn}
-use Rattle.turns.specs.declared.Finished.{Finished}
 
 pub record StateBegins (s : State) (cards : List ℕ) : Type 0 where
   pub reading : Begins s.reading cards
@@ -26,36 +27,45 @@ pub record StateBegins (s : State) (cards : List ℕ) : Type 0 where
   pub line : s.line ≡ 0
   pub blocks : s.blocks ≡ 0
 
-pub record Stops (number line : ℕ) (t : Turn) : Type 0 where
-  pub ended : t.ended ≡ true
-  pub worked : t.worked ≡ record { refused = true; number = number; line = line; nq = 0; blocks = 0 }
+-- refused, by that number at that line
+abbrev pub Stops : {A : Type 0} → (number line : ℕ) → Result A Refused → Type 0
+Stops number line (Ok x) = ⊥
+Stops number line (Err r) = (refusal_number r.refusal ≡ number) × (r.line ≡ line)
 
-pub record GoesOn (r : Reading) (held : Stack) (name : Name) (at line blocks : ℕ) (t : Turn) (cards : List ℕ) : Type 0 where
-  pub ended : t.ended ≡ false
-  pub reading : Opens r name t.state.reading cards
-  pub holds : t.state.held ≡ held
-  pub place : t.state.at ≡ at
-  pub lines : t.state.line ≡ line
-  pub count : t.state.blocks ≡ blocks + 1
+pub record Opened (r : Reading) (held : Stack) (name : Name) (at line blocks : ℕ) (s : State) (cards : List ℕ) : Type 0 where
+  pub reading : Opens r name s.reading cards
+  pub holds : s.held ≡ held
+  pub place : s.at ≡ at
+  pub lines : s.line ≡ line
+  pub count : s.blocks ≡ blocks + 1
 
-abbrev pub worked_well : ℕ → ℕ → Worked
-worked_well nq blocks = record { refused = false; number = 0; line = 0; nq = nq; blocks = blocks }
+abbrev pub GoesOn : (r : Reading) (held : Stack) (name : Name) (at line blocks : ℕ) → Result State Refused → (cards : List ℕ) → Type 0
+GoesOn r held name at line blocks (Ok s) cards = Opened r held name at line blocks s cards
+GoesOn r held name at line blocks (Err e) cards = ⊥
+
+abbrev pub worked_well : ℕ → ℕ → Result Worked Refused
+worked_well nq blocks = Ok (record { nq = nq; blocks = blocks })
 
 -- at an accepted end the last block's hydrograph, which alone is held, is copied if no block is named
 abbrev pub copied_last : (named nq : ℕ) → (flow ordinates : List ℕ) → List ℕ
 copied_last named nq flow ordinates = when named =? 0 then copied_first nq flow ordinates else ordinates
 
-pub record OpensNext (r : Reading) (name : Name) (at line : ℕ) (closed : Finished) (blocks : ℕ) (t : Turn) (cards : List ℕ) : Type 0 where
-  pub refused : (closed.refusal ≡ 0 → ⊥) → Stops closed.refusal line t
-  pub many : closed.refusal ≡ 0 → most_blocks ≤ blocks → Stops 14 line t
-  pub goes : closed.refusal ≡ 0 → blocks < most_blocks → GoesOn r closed.held name at line blocks t cards
+-- what is held where a block was closed, or none was open; nothing where it was refused
+abbrev pub stack_in : Result Stack Refusal → Stack
+stack_in (Ok s) = s
+stack_in (Err r) = none_held
+
+pub record OpensNext (r : Reading) (name : Name) (at line : ℕ) (closed : Result Stack Refusal) (blocks : ℕ) (t : Result State Refused) (cards : List ℕ) : Type 0 where
+  pub refused : (refusal_in closed ≡ 0 → ⊥) → Stops (refusal_in closed) line t
+  pub many : refusal_in closed ≡ 0 → most_blocks ≤ blocks → Stops 14 line t
+  pub goes : refusal_in closed ≡ 0 → blocks < most_blocks → GoesOn r (stack_in closed) name at line blocks t cards
 
 -- the ordinates, once more where the deck is accepted: ordinates'
-pub record EndsDeck (nq line : ℕ) (closed : Finished) (blocks named : ℕ) (t : Turn) (work ordinates ordinates' : List ℕ) : Type 0 where
-  pub refused : (closed.refusal ≡ 0 → ⊥) → Stops closed.refusal line t
-  pub not-one : closed.refusal ≡ 0 → (closed.held.depth ≡ 1 → ⊥) → Stops 15 line t
-  pub done : closed.refusal ≡ 0 → closed.held.depth ≡ 1
-      → (t.ended ≡ true) × (t.worked ≡ worked_well nq blocks) × (ordinates' ≡ copied_last named nq (part (most_ordinates * (closed.held.depth - 1)) nq work) ordinates)
+pub record EndsDeck (nq line : ℕ) (closed : Result Stack Refusal) (blocks named : ℕ) (t : Result Worked Refused) (work ordinates ordinates' : List ℕ) : Type 0 where
+  pub refused : (refusal_in closed ≡ 0 → ⊥) → Stops (refusal_in closed) line t
+  pub not-one : refusal_in closed ≡ 0 → ((stack_in closed).depth ≡ 1 → ⊥) → Stops 15 line t
+  pub done : refusal_in closed ≡ 0 → (stack_in closed).depth ≡ 1
+      → (t ≡ worked_well nq blocks) × (ordinates' ≡ copied_last named nq (part (most_ordinates * ((stack_in closed).depth - 1)) nq work) ordinates)
 
 -- which way it is, where it hangs on a number
 pub is_or_not : (a b : ℕ) → (a ≡ b) ⊎ (a ≡ b → ⊥)

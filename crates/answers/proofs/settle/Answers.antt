@@ -1,5 +1,6 @@
 -- The one test is the definition's own: 17 is a refusal like any other, and else the words alone are zeroed.
 use mathlib.Core.Path.{sym, ◌∙◌}
+use Rattle.std.proofs.Common.{◌≡◌, length, replicate, rules}
 use Rattle.sequences.specs.Choices.{taken, passed}
 use Rattle.answers.specs.Answers.{zeros_accept}
 use Rattle.answers.proofs.settle.Goals as goal
@@ -11,5 +12,6 @@ returns-then-lacks_room c =
 pub returns : goal.returns
 returns c =
     let x = c.args in
+    let zeros : c.fill.new.self ≡ replicate (length x.work.now) 0 = search rules in
     passed _ (sym c.lacks_room.ensures ∙ c.if-lacks_room.false)
-    (zeros_accept x.nq x.blocks x.ratios x.work.now _ x.ordinates.now x.records.now c.zero_words.ensures)
+    (zeros_accept x.found.ordinates x.found.blocks x.found.ratios x.work.now _ x.ordinates.now x.records.now zeros)

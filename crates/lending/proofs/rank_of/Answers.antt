@@ -1,14 +1,12 @@
--- Its test is that of the definition.
-use mathlib.Core.Path.{refl}
-use borrow.Author.Tests.{eq-eqb, ne_eqb}
-use Rattle.sequences.specs.Choices.{taken, passed}
+use Rattle.std.proofs.Common.{rules, tests}
+use Rattle.meaning.specs.Words.{when◌then◌else◌}
 use Rattle.passes.specs.Apart.{rank_of}
 use Rattle.lending.proofs.rank_of.Goals as goal
 
-pub returns-then-number-eq20 : goal.returns-then-number-eq20
-unfolding rank_of
-returns-then-number-eq20 c = taken _ (eq-eqb _ _ c.if-number-eq20.true) refl
+pub returns-in-Overtopped : goal.returns-in-Overtopped
+unfolding rank_of when◌then◌else◌
+returns-in-Overtopped c = search (tests, rules)
 
-pub returns : goal.returns
-unfolding rank_of
-returns c = passed _ (ne_eqb _ _ c.if-number-eq20.false) refl
+pub returns-in_default : goal.returns-in_default
+unfolding rank_of when◌then◌else◌
+returns-in_default c = search (tests, rules)
