@@ -242,7 +242,7 @@ pub fn reason_line(s: &[u8], six: bool, free: bool, out: &mut [u8]) -> usize
     ensures told { Written out.old 0 (reason six (form_of free) s.now) out.new result }
     ensures counted { Counted result out.new }
 {
-    if s.len() < 1 {
+    if s.is_empty() {
         return 0;
     }
     match lines::line_at(s, 0) {
