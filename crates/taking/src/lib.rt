@@ -103,8 +103,5 @@ pub fn take_item(
     if scan.outside {
         return Err(Refusal::OutsideLimits);
     }
-    if blocks::take_values(cards, item, values, scan.count, r.time.ordinates) != 0 {
-        return Err(Refusal::TooManyValues);
-    }
-    Ok(())
+    blocks::take_values(cards, item, values, scan.count, r.time.ordinates)
 }
