@@ -217,16 +217,7 @@ fn seek(svs: &[u64], sqs: &[u64], ws: &[u64], rises: &[u64], s: Span, w: u64) ->
     s
 }
 
-// THE OUTFLOW. A number itself, for the divisions: the compiler does not see that nothing is changed, and so divides at once. Else it would first test, twice at every ordinate,
-// whether a division of 32 bits will do, which it will for hardly any W.
-fn plain(x: u64, small: u64) -> u64
-    requires { small < 4_294_967_296 }
-    ensures { result ≡ x }
-{
-    small / 4_294_967_296 ^ x
-}
-
-// What is left of an interpolation, divided by what W rises by and rounded down.
+// THE OUTFLOW. What is left of an interpolation, divided by what W rises by and rounded down.
 fn round_down(share: u64, rise: u64) -> u64
     requires { (0 < rise) × (rise ≤ 28_919_998_548) × (share ≤ 289_199_985_480_000_000) }
     ensures { result ≡ share / rise }
@@ -242,8 +233,8 @@ fn outflow_at(m: u64, s: Span, w: u64) -> u64
     if s.high < w {
         return s.out + 600_000 * s.more;
     }
-    let x = plain(w - s.low, m);
-    let share = plain(s.more * (x % s.rise), m);
+    let x = units::plain(w - s.low, m);
+    let share = units::plain(s.more * (x % s.rise), m);
     s.out + s.more * (x / s.rise) + round_down(share, s.rise)
 }
 
