@@ -4,7 +4,7 @@
 --     storm_fall       the two together; storm_excess: and what is left of it; most_excess: at most so much in an interval
 --     length_fall, fall_up    how many rains there are, and how large
 --     length-storm, storm_up, storm-dry    how many excesses there are, how large, and that there are none behind the last rain listed
-use Rattle.std.specs.Prelude.{ℕ, ◌*◌, ◌≤◌, ◌≡◌, refl, List, ◌++◌, length, replicate}
+use Rattle.std.specs.Prelude.{ℕ, Option, None, Some, ◌*◌, ◌≤◌, ◌≡◌, refl, List, ◌++◌, length, replicate}
 use Rattle.std.proofs.Common.{ap, ◌∙◌, arith}
 use Rattle.sequences.specs.Bounds.{AllUpTo}
 use Rattle.sequences.specs.Sums.{sum-dry}
@@ -12,23 +12,21 @@ use Rattle.sequences.specs.Cuts.{length_cut, cut-dry, cut_same, cut-whole, cut_u
 use Rattle.meaning.specs.Water.{sum_of, cut_of}
 use Rattle.units.specs.declared.Depth.{Depth}
 use Rattle.storms.specs.Rains.{total_over}
-use Rattle.excess.specs.declared.Total.{Total}
-use Rattle.excess.specs.declared.Total.TheVariants.{NotGiven, Given}
 use Rattle.excess.specs.declared.Storm.{Storm}
 use Rattle.excess.specs.Losses.{excess_by, length-excess, excess_up, excess-dry}
 
 -- a total is at most 100 inches
-abbrev pub TotalWithin : Total → Type 0
-TotalWithin NotGiven = Unit
-TotalWithin (Given total) = total.0 ≤ 60_000_000
+abbrev pub TotalWithin : Option Depth → Type 0
+TotalWithin None = Unit
+TotalWithin (Some total) = total.0 ≤ 60_000_000
 
 -- what a total that is given is within
-pub given_within : {total : Total} {depth : Depth} → total ≡ Given depth → TotalWithin total → depth.0 ≤ 60_000_000
+pub given_within : {total : Option Depth} {depth : Depth} → total ≡ Some depth → TotalWithin total → depth.0 ≤ 60_000_000
 given_within e h = rw e at h
 
-abbrev pub rain_by : Total → List ℕ → List ℕ
-rain_by NotGiven listed = listed
-rain_by (Given total) listed = total_over total listed
+abbrev pub rain_by : Option Depth → List ℕ → List ℕ
+rain_by None listed = listed
+rain_by (Some total) listed = total_over total listed
 
 -- of 100, since a ratio is in hundredths
 abbrev pub rated : ℕ → List ℕ → List ℕ
@@ -43,17 +41,17 @@ storm_fall storm listed = rated storm.ratio (rain_by storm.total listed)
 abbrev pub storm_excess : Storm → List ℕ → List ℕ
 storm_excess storm listed = excess_by storm.loss (storm_fall storm listed)
 
-length_by : (total : Total) (listed : List ℕ) → length (rain_by total listed) ≡ length listed
-length_by NotGiven listed = refl
-length_by (Given total) listed = length_cut total.0 (sum_of listed) listed
+length_by : (total : Option Depth) (listed : List ℕ) → length (rain_by total listed) ≡ length listed
+length_by None listed = refl
+length_by (Some total) listed = length_cut total.0 (sum_of listed) listed
 
-rain_by_up : (total : Total) (listed : List ℕ) → TotalWithin total → AllUpTo 12_000_000 listed → AllUpTo 60_000_000 (rain_by total listed)
-rain_by_up NotGiven listed within up k = omega (arith, up k)
-rain_by_up (Given total) listed within up k = omega (arith, cut-whole total.0 listed k, within)
+rain_by_up : (total : Option Depth) (listed : List ℕ) → TotalWithin total → AllUpTo 12_000_000 listed → AllUpTo 60_000_000 (rain_by total listed)
+rain_by_up None listed within up k = omega (arith, up k)
+rain_by_up (Some total) listed within up k = omega (arith, cut-whole total.0 listed k, within)
 
-rain_by_dry : (total : Total) (listed : List ℕ) (k : ℕ) → rain_by total (listed ++ replicate k 0) ≡ rain_by total listed ++ replicate k 0
-rain_by_dry NotGiven listed k = refl
-rain_by_dry (Given total) listed k =
+rain_by_dry : (total : Option Depth) (listed : List ℕ) (k : ℕ) → rain_by total (listed ++ replicate k 0) ≡ rain_by total listed ++ replicate k 0
+rain_by_dry None listed k = refl
+rain_by_dry (Some total) listed k =
     ap (λ (s : ℕ). cut_of total.0 s (listed ++ replicate k 0)) (sum-dry listed k) ∙ cut-dry total.0 (sum_of listed) listed k
 
 -- 100 inches at 9.99, and a unit more where the floors fall so

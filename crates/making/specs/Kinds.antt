@@ -9,7 +9,6 @@ use Rattle.limits.specs.Within.{TimeWithin}
 use Rattle.kinds.specs.Kinds.{kind_must}
 use Rattle.excess.specs.declared.Loss.{Loss}
 use Rattle.routing.specs.Soundness.{Reach}
-use Rattle.excess.specs.declared.Total.TheVariants.{NotGiven, Given}
 use Rattle.excess.specs.Storms.{TotalWithin}
 use Rattle.runoff.specs.Storm.{StormWithin}
 use Rattle.units.specs.declared.Depth.{Depth}
@@ -19,7 +18,7 @@ use Rattle.stack.specs.Kinds.{block_storm}
 use Rattle.shaping.specs.Limits.{CardsWithin}
 use Rattle.shaping.specs.Shapes.{Shaped, shaped_passes}
 
-total_up : (t : Bool) (total : Depth) → total.0 ≤ 60_000_000 → TotalWithin (when t then Given total else NotGiven)
+total_up : (t : Bool) (total : Depth) → total.0 ≤ 60_000_000 → TotalWithin (when t then Some total else None)
 unfolding when◌then◌else◌
 total_up true total up = up
 total_up false total up = tt

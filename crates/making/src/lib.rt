@@ -14,9 +14,10 @@ ghost use Rattle.shaping.specs.Shapes.{Shaped};
 ghost use Rattle.making.specs.Made.{HeldWithin, Makes, MakesAll, made_dry};
 
 use blocks::Time;
-use excess::{Loss, Storm, Total};
+use excess::{Loss, Storm};
 use kinds::Kind;
 use stack::Stack;
+use units::Depth;
 
 // The area of a basin or an inflow; a block without BA has none.
 fn area_of(cards: &[u64]) -> u32
@@ -37,14 +38,14 @@ fn loss_of(time: Time, cards: &[u64]) -> Loss
 }
 
 // The total of its storm, where it is given one.
-fn total_of(cards: &[u64]) -> Total
+fn total_of(cards: &[u64]) -> Option<Depth>
     requires { Readable cards.now × CardsWithin (block_of [] cards.now) }
     ensures { (name : List ℕ) → result ≡ block_total (block_of name cards.now) }
 {
     if blocks::is_given(cards, records::PB) {
-        return Total::Given(units::depth_of(blocks::value_at(cards, records::PB, 0)));
+        return Some(units::depth_of(blocks::value_at(cards, records::PB, 0)));
     }
-    Total::NotGiven
+    None
 }
 
 // What is made of the rain that it lists.

@@ -2,16 +2,17 @@
 --     refused_unpaired, refused_short     unequal counts, and fewer than two pairs
 --     refused_volume, refused_outflow     a first row with water, and with outflow
 --     asked-behind                        with none of these, the rows behind the first are asked
+--     asked                               all of it at once
 --     rows_turn, rows_done                a row more, and none left
 --     row_hundredths                      what is asked of a row is asked of hundredths
-use Rattle.std.specs.Prelude.{ℕ, suc, ◌+◌, ◌*◌, ◌≤◌, ◌<◌, ◌≡◌, Bool, true, false, ◌||◌, not, List, [], ◌∷◌, length, get_or, drop}
+use Rattle.std.specs.Prelude.{ℕ, suc, ◌⊎◌, ◌+◌, ◌*◌, ◌≤◌, ◌<◌, ◌≡◌, Bool, true, false, ◌||◌, not, List, [], ◌∷◌, length, get_or, drop}
 use Rattle.std.proofs.Math.Bool.{or-true}
-use Rattle.std.proofs.Common.{⊎_elim, mul_assoc, add-one, arith, drop_of_length-le, drop-cons, le-leb, lt-ltb, le-ltb, eq-eqb, ne_eqb}
+use Rattle.std.proofs.Common.{inl, inr, ⊎_elim, mul_assoc, add-one, arith, drop_of_length-le, drop-cons, le-leb, lt-ltb, le-ltb, eq-eqb, ne_eqb}
 use Rattle.std.proofs.lemmas.Bool.{lt-leb}
 use Rattle.sequences.specs.Choices.{below_or_not}
 use Rattle.meaning.specs.Words.{◌=?◌, ◌≤?◌, ◌<?◌}
 use Rattle.meaning.specs.Pool.{pool_row, rows_of, row_breaks, rows_break, table_breaks}
-use Rattle.pond.specs.Tables.{count_rows}
+use Rattle.pond.specs.Tables.{row_at, count_rows}
 
 -- the counts' two tests
 abbrev counts : (svs sqs : List ℕ) → Bool
@@ -49,6 +50,37 @@ asked-behind m (sv ∷ svs) [] e two v q = absurd (omega arith)
 asked-behind m (sv ∷ svs) (sq ∷ sqs) e two v q =
     let more : 2 ≤ suc (length (rows_of svs sqs)) = omega (arith, count_rows (sv ∷ svs) (sq ∷ sqs) e) in
     rw (v, q, le-ltb (suc (length (rows_of svs sqs))) 2 more, eq-eqb (suc (length svs)) (suc (length sqs)) e)
+
+same_or_not : (a b : ℕ) → (a ≡ b) ⊎ (a ≡ b → ⊥)
+same_or_not a b =
+    ⊎_elim
+    (λ (h : a < b). inr (λ e. omega arith))
+    (λ (h : b ≤ a). ⊎_elim (λ (k : b < a). inr (λ e. omega arith)) (λ (k : a ≤ b). inl (omega arith)) (below_or_not b a))
+    (below_or_not a b)
+
+-- all of it at once
+pub asked : (m : ℕ) (svs sqs : List ℕ)
+    → table_breaks m svs sqs
+    ≡ (not (length svs =? length sqs) || (length svs <? 2) || not (get_or svs 0 0 =? 0) || not (get_or sqs 0 0 =? 0) || rows_break m (row_at svs sqs 0) (rows_of (drop 1 svs) (drop 1 sqs)))
+asked m svs sqs =
+    ⊎_elim
+    (λ (e : length svs ≡ length sqs).
+    ⊎_elim
+    (λ (short : length svs < 2). rw (refused_short m svs sqs e short, eq-eqb (length svs) (length sqs) e, lt-ltb (length svs) 2 short))
+    (λ (two : 2 ≤ length svs).
+    ⊎_elim
+    (λ (v : get_or svs 0 0 ≡ 0).
+    ⊎_elim
+    (λ (q : get_or sqs 0 0 ≡ 0). rw (asked-behind m svs sqs e two v q, eq-eqb (length svs) (length sqs) e, le-ltb (length svs) 2 two, v, q))
+    (λ (q : get_or sqs 0 0 ≡ 0 → ⊥).
+    rw (refused_outflow m svs sqs e two q, eq-eqb (length svs) (length sqs) e, le-ltb (length svs) 2 two, v, ne_eqb (get_or sqs 0 0) 0 q))
+    (same_or_not (get_or sqs 0 0) 0))
+    (λ (v : get_or svs 0 0 ≡ 0 → ⊥).
+    rw (refused_volume m svs sqs e two v, eq-eqb (length svs) (length sqs) e, le-ltb (length svs) 2 two, ne_eqb (get_or svs 0 0) 0 v))
+    (same_or_not (get_or svs 0 0) 0))
+    (below_or_not (length svs) 2))
+    (λ (apart : length svs ≡ length sqs → ⊥). rw (refused_unpaired m svs sqs apart, ne_eqb (length svs) (length sqs) apart))
+    (same_or_not (length svs) (length sqs))
 
 -- `broken`: whether the row at j breaks a rule
 pub rows_turn : (m sv sq : ℕ) (svs sqs : List ℕ) (j : ℕ) (broken : Bool) → length svs ≡ length sqs → j < length svs

@@ -1,4 +1,5 @@
 -- A pond's table that 19 does not refuse, and what its rules give.
+--     TableWithin            as many values of SV as of SQ, within the limits of their cards
 --     PondTable              the table, of values within the limits of their cards and at most 20 rows; two_rows, paired, ruled: 19's three parts
 --     Follows                a row behind another one: V and W rise, Q does not fall, and 2M·Q is at most W (follows: by the rules)
 --     Kept                   rows from one on that keep the rules; kept_next and kept-rest take the next one off
@@ -14,6 +15,12 @@ use Rattle.sequences.specs.Bounds.{AllUpTo}
 use Rattle.sequences.specs.Choices.{both_fail}
 use Rattle.meaning.specs.Words.{◌=?◌, ◌≤?◌, ◌<?◌}
 use Rattle.meaning.specs.Pool.{PoolRow, pool_row, rows_of, w_of, starts_elsewhere, row_breaks, rows_break, rules_break, table_breaks}
+
+pub record TableWithin (m : ℕ) (svs sqs : List ℕ) : Type 0 where
+  pub minutes : m ≤ 1_440
+  pub volumes_up : AllUpTo 9_999_999 svs
+  pub outflows_up : AllUpTo 10_000_000 sqs
+  pub paired : length svs ≡ length sqs
 
 pub record PondTable (m : ℕ) (svs sqs : List ℕ) : Type 0 where
   pub minutes : m ≤ 1_440

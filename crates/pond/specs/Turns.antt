@@ -51,6 +51,19 @@ module _ (m : ℕ) (rows : List PoolRow) where
   above_first [] v x h q = absurd (omega arith)
   above_first (y ∷ ys) v x h q = rw (q, pools-after m rows (pool_start y) ys, le-ltb (last_w m rows) 0 zero-le)
 
+  -- the outflows from the first on, and whether any pool is above: `behind` is what comes in behind the first
+  pub ponded_by_first : (xs behind : List ℕ) → 0 < length xs → behind ≡ drop 1 xs
+      → ponded_of m rows xs ≡ 0 ∷ outflows_after m rows (pool_of 0 (get_or xs 0 0) 0) behind
+  unfolding ponded_of
+  ponded_by_first [] behind some e = absurd (omega arith)
+  ponded_by_first (x ∷ xs) behind some e = rw (e, pools-after m rows (pool_start x) xs)
+
+  pub above_by_first : (xs behind : List ℕ) → 0 < length xs → behind ≡ drop 1 xs
+      → overtopped m rows xs ≡ above_after m rows (pool_of 0 (get_or xs 0 0) 0) behind
+  unfolding overtopped
+  above_by_first [] behind some e = absurd (omega arith)
+  above_by_first (x ∷ xs) behind some e = rw (e, pools-after m rows (pool_start x) xs, le-ltb (last_w m rows) 0 zero-le)
+
   -- w', x' and o' are the pool's at ordinate i, and v is what is put there
   module _ (q : List ℕ) (i w x o w' x' o' v : ℕ) (h : i < length q) (pw : w' ≡ w_after m (pool_of w x o) (get_or q i 0)) (px : x' ≡ get_or q i 0) (po : o' ≡ outflow_at m rows w') where
     pub outflow_turn : v ≡ o'

@@ -2,10 +2,13 @@
 --     rain_up, rain-sum     how large the rain of an interval is, and all of it together
 --     rain-listed           behind the last value listed there are zeros
 --     rain_from              what falls from an interval on; rain-whole: from the first; rain-next: one interval later; rain_past: behind the last value listed
+--     dry_listed            no value listed for an interval is above 0 when nothing falls, and only then
 --     Cuttable              what the cut of a running sum asks, so that no product passes a word
 --     total_over             a total over its pattern; dry-total: where the pattern adds up to nothing, that is the pattern
-use Rattle.std.specs.Prelude.{ℕ, zero, suc, ◌+◌, ◌-◌, ◌*◌, ◌≤◌, ◌<◌, ◌^◌, min, ◌≡◌, refl, List, [], ◌∷◌, ◌++◌, length, get_or, replicate}
-use Rattle.std.proofs.Common.{sym, ap, ◌∙◌, mul-le-mul, zero-add, suc-add}
+use Rattle.std.specs.Prelude.{ℕ, zero, suc, ◌+◌, ◌-◌, ◌*◌, ◌≤◌, ◌<◌, ◌^◌, min, ◌≡◌, refl, List, [], ◌∷◌, ◌++◌, length, get_or, replicate, take, ◌&&◌, Bool}
+use Rattle.std.specs.List.{list_all}
+use Rattle.meaning.specs.Words.{◌=?◌}
+use Rattle.std.proofs.Common.{sym, ap, ◌∙◌, mul-le-mul, zero-add, suc-add, ne_eqb, eq-eqb, add-zero}
 use native.Mathlib.Omega.{arith}
 use Rattle.std.proofs.Math.ListN.{get_or-eq_default}
 use Rattle.sequences.specs.Bounds.{AllUpTo}
@@ -67,6 +70,28 @@ module _ (rains : List ℕ) (intervals : ℕ) where
       (none_from (depth_of rains) i (intervals - i)
       (λ (j : ℕ) from below. (let far : length rains ≤ j = omega arith in ap (λ (v : ℕ). v * ten_thousandth) (get_or-eq_default rains 0 far))))
       ∙ sum-dry [] (intervals - i)
+
+-- a sum is nothing when each of its two parts is
+none_of_both : (x s : ℕ) → (x =? 0) && (s =? 0) ≡ (x * ten_thousandth + s =? 0)
+none_of_both zero s = rw zero-add
+none_of_both (suc x) s = rw (ne_eqb (suc x) 0 (λ none. omega arith), ne_eqb (suc x * ten_thousandth + s) 0 (λ none. omega arith))
+
+dry_from : (f : ℕ → ℕ) (xs : List ℕ) (i n : ℕ) → ((k : ℕ) → f (i + k) ≡ get_or xs k 0 * ten_thousandth)
+    → list_all (λ (depth : ℕ). depth =? 0) (take n xs) ≡ (sum_of (list_from f i n) =? 0)
+dry_from f xs i zero each = refl
+dry_from f [] i (suc n) each =
+    let none : list_from f i (suc n) ≡ replicate (suc n) 0
+    = none_from f i (suc n) (λ (j : ℕ) from below. (let at : i + (j - i) ≡ j = omega arith in rw at at (each (j - i)))) in
+    sym (eq-eqb _ 0 (ap sum_of none ∙ sum-dry [] (suc n)))
+dry_from f (x ∷ xs) i (suc n) each =
+    let first : f i ≡ x * ten_thousandth = rw add-zero at (each 0) in
+    ap (λ (b : Bool). (x =? 0) && b) (dry_from f xs (i + 1) n (λ (k : ℕ). let on : i + 1 + k ≡ i + suc k = omega arith in rw on (each (suc k))))
+    ∙ rw first (none_of_both x (sum_of (list_from f (i + 1) n)))
+
+pub dry_listed : (rains : List ℕ) (intervals : ℕ)
+    → list_all (λ (depth : ℕ). depth =? 0) (take intervals rains) ≡ (sum_of (rain_of rains intervals) =? 0)
+unfolding rain_of
+dry_listed rains intervals = dry_from (depth_of rains) rains 0 intervals (λ (k : ℕ). rw zero-add)
 
 pub record Cuttable (n d : ℕ) (xs : List ℕ) : Type 0 where
   pub some : 0 < d

@@ -22,15 +22,7 @@ pub fn rain_at(rains: &[u64], i: usize) -> Depth
 pub fn is_dry(rains: &[u64], intervals: usize) -> bool
     ensures { result ≡ (sum_of (rain_of rains.now intervals) =? 0) }
 {
-    let listed = slices::smaller(rains.len(), intervals);
-    let mut i: usize = 0;
-    while i < listed {
-        if 0 < rains[i] {
-            return false;
-        }
-        i += 1;
-    }
-    true
+    rains.iter().take(intervals).all(|depth| *depth == 0)
 }
 
 // The rain listed for every interval, and what it adds up to.
@@ -41,12 +33,9 @@ pub fn list_rain(rain: &mut [u64], rains: &[u64]) -> u64
     ensures added { result ≡ sum_of (rain_of rains.now (length rain.old)) }
 {
     let mut sum = 0;
-    let mut i = 0;
-    while i < rain.len() {
-        let depth = rain_at(rains, i);
-        rain[i] = depth.0;
-        sum += depth.0;
-        i += 1;
+    for (i, depth) in rain.iter_mut().enumerate() {
+        *depth = rain_at(rains, i).0;
+        sum += *depth;
     }
     sum
 }
@@ -58,13 +47,11 @@ pub fn cut(xs: &mut [u64], n: u64, d: u64)
 {
     let mut sum = 0;
     let mut before = 0;
-    let mut i = 0;
-    while i < xs.len() {
-        sum += xs[i];
+    for x in xs.iter_mut() {
+        sum += *x;
         let share = n * sum / d;
-        xs[i] = share - before;
+        *x = share - before;
         before = share;
-        i += 1;
     }
 }
 

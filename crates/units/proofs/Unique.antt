@@ -10,6 +10,8 @@ use Rattle.units.proofs.flow_of.Kinds as flow-of
 use Rattle.units.proofs.flow_of.Reads as flow-of-says
 use Rattle.units.proofs.value_at.Kinds as value-at
 use Rattle.units.proofs.value_at.Reads as value-at-says
+use Rattle.units.proofs.plain.Kinds as plain
+use Rattle.units.proofs.plain.Reads as plain-says
 
 pub one_depth_of : Once depth-of.ps depth-of.r depth-of-says.Post (λ κs x y e f. x ≡ y)
 one_depth_of κs a x y e f p q = ap (λ (n : ℕ). record { 0 = n }) (p ∙ sym q)
@@ -22,3 +24,6 @@ one_flow_of κs a x y e f p q = ap (λ (n : ℕ). record { 0 = n }) (p ∙ sym q
 
 pub one_value_at : Once value-at.ps value-at.r value-at-says.Post (λ κs x y e f. x ≡ y)
 one_value_at κs a x y e f p q = p ∙ sym q
+
+pub one_plain : Once plain.ps plain.r plain-says.Post (λ κs x y e f. x ≡ y)
+one_plain κs a x y e f p q = p ∙ sym q

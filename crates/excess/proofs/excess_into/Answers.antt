@@ -15,7 +15,7 @@ pub loop-i-preserved : goal.loop-i-preserved
 loop-i-preserved c =
     let x = c.args in
     let l = c.loop-i in
-    let rain = c.rain_at-rain in
+    let rain = c.rain_at in
     let left = c.lose_interval-left in
     losing_more x.loss (listed x.rains.now) x.excess.now l.excess l.unfilled.0 l.i l.invariant rain.result.0 left.result (omega arith)
     (rw rain.ensures) left.ensures
@@ -27,12 +27,3 @@ returns c =
     let l = c.loop-i in
     losing_all x.loss (listed x.rains.now) x.excess.now l.excess l.unfilled.0 l.i l.invariant (omega arith) refl
     ∙ ap (excess_by x.loss) (filled_list (depth_of x.rains.now) 0 x.excess.now)
-
-pub rain_at-rain-requires : goal.rain_at-rain-requires
-rain_at-rain-requires c = c.requires
-
-pub lose_interval-left-requires : goal.lose_interval-left-requires
-lose_interval-left-requires c = tt
-
-pub shape_of-excess : goal.shape_of-excess
-shape_of-excess c = c.loop-i.invariant.long

@@ -5,24 +5,18 @@ use Rattle.sequences.specs.Carrying.{standing}
 use Rattle.excess.specs.Losses.{losing_none, losing_more, losing_all}
 use Rattle.excess.proofs.lose.Goals as goal
 
-pub loop-i-init : goal.loop-i-init
-loop-i-init c = let x = c.args in losing_none x.loss standing x.rain.now
+pub loop-depth-init : goal.loop-depth-init
+loop-depth-init c = let x = c.args in losing_none x.loss standing x.rain.now
 
-pub loop-i-preserved : goal.loop-i-preserved
-loop-i-preserved c =
+pub loop-depth-preserved : goal.loop-depth-preserved
+loop-depth-preserved c =
     let x = c.args in
-    let l = c.loop-i in
+    let l = c.loop-depth in
     let left = c.lose_interval-left in
-    losing_more x.loss standing x.rain.now l.rain l.unfilled.0 l.i l.invariant _ left.result (omega arith) refl left.ensures
+    losing_more x.loss standing x.rain.now l.rain l.unfilled.0 l.depth-index l.invariant _ left.result (omega arith) refl left.ensures
 
 pub returns : goal.returns
 returns c =
     let x = c.args in
-    let l = c.loop-i in
-    losing_all x.loss standing x.rain.now l.rain l.unfilled.0 l.i l.invariant (omega arith) refl
-
-pub lose_interval-left-requires : goal.lose_interval-left-requires
-lose_interval-left-requires c = tt
-
-pub shape_of-rain : goal.shape_of-rain
-shape_of-rain c = c.loop-i.invariant.long
+    let l = c.loop-depth in
+    losing_all x.loss standing x.rain.now l.rain l.unfilled.0 l.depth-index l.invariant (omega arith) refl

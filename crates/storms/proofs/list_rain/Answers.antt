@@ -1,13 +1,9 @@
 -- `storms::list_rain` meets its contract: a loop that fills a list with a function of the place. The sum so far and that of the intervals to come are the whole.
-use Prim.Native.Nat.{ℕ, ◌+◌, ◌-◌}
-use mathlib.Core.Path.{◌≡◌}
-use mathlib.Core.List.{List}
 use native.Mathlib.Omega.{arith}
 use lib.ListN.{length}
-use Rattle.sequences.specs.Filling.{Filled, filled_none, filled_more, filled_all}
-use Rattle.meaning.specs.Water.{sum_of, rain_of}
-use Rattle.storms.specs.Rains.{depth_of, rain_from, rain-sum, rain-whole, rain-next, rain_past}
-use Rattle.storms.proofs.list_rain.Invariants.{Inv}
+use Rattle.sequences.specs.Filling.{filled_none, filled_more, filled_all}
+use Rattle.meaning.specs.Water.{rain_of}
+use Rattle.storms.specs.Rains.{rain-sum, rain-whole, rain-next, rain_past}
 use Rattle.storms.proofs.list_rain.Goals as goal
 
 pub loop-i-init : goal.loop-i-init
@@ -21,14 +17,14 @@ overflow_add-sum c =
     let l = c.loop-i in
     let rains = s.args.rains.now in
     let n = length s.args.rain.now in
-    omega (arith, l.invariant.left, rain-next rains n l.i (omega arith), rain-sum rains s.requires.all_up_to n s.requires.rain_len_bound, c.rain_at-depth.ensures)
+    omega (arith, l.invariant.left, rain-next rains n l.i (omega arith), rain-sum rains s.requires.all_up_to n s.requires.rain_len_bound, c.rain_at.ensures)
 
 pub loop-i-preserved : goal.loop-i-preserved
 loop-i-preserved c =
     let s = c in
     let l = c.loop-i in
     let rains = s.args.rains.now in
-    let depth = c.rain_at-depth.ensures in
+    let depth = c.rain_at.ensures in
     record {
       filled = filled_more _ _ l.rain l.i _ l.invariant.filled (omega arith) depth;
       left = omega (arith, l.invariant.left, rain-next rains (length s.args.rain.now) l.i (omega arith), depth);
@@ -40,9 +36,3 @@ returns c =
     let x = c.args in
     let l = c.loop-i in
     let none = rain_past x.rains.now (length x.rain.now) l.i (omega arith) in record { rain_after = filled_all _ _ _ _ l.invariant.filled (omega arith); added = omega (arith, l.invariant.left, none) }
-
-pub rain_at-depth-requires : goal.rain_at-depth-requires
-rain_at-depth-requires c = c.requires.all_up_to
-
-pub shape_of-rain : goal.shape_of-rain
-shape_of-rain c = c.loop-i.invariant.filled.long

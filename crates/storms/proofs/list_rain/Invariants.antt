@@ -1,12 +1,11 @@
 -- `storms::list_rain` meets its contract: a loop that fills a list with a function of the place. The sum so far and that of the intervals to come are the whole.
-use Prim.Native.Nat.{ℕ, ◌+◌, ◌-◌}
+use Prim.Native.Nat.{ℕ, ◌+◌}
 use mathlib.Core.Path.{◌≡◌}
 use mathlib.Core.List.{List}
-use native.Mathlib.Omega.{arith}
 use lib.ListN.{length}
-use Rattle.sequences.specs.Filling.{Filled, filled_none, filled_more, filled_all}
+use Rattle.sequences.specs.Filling.{Filled}
 use Rattle.meaning.specs.Water.{sum_of, rain_of}
-use Rattle.storms.specs.Rains.{depth_of, rain_from, rain-sum, rain-whole, rain-next, rain_past}
+use Rattle.storms.specs.Rains.{depth_of, rain_from}
 use Rattle.storms.proofs.list_rain.Given as goal
 
 pub record Inv (rains rain₀ rain : List ℕ) (sum i : ℕ) : Type 0 where
@@ -15,6 +14,3 @@ pub record Inv (rains rain₀ rain : List ℕ) (sum i : ℕ) : Type 0 where
 
 abbrev pub invariant-loop-i : goal.invariant-loop-i
 invariant-loop-i l = Inv l.rains l.initial.rain l.rain l.sum l.i
-
-abbrev pub decreases-loop-i : goal.decreases-loop-i
-decreases-loop-i l = length l.initial.rain - l.i

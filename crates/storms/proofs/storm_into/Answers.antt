@@ -1,7 +1,6 @@
 -- `storms::storm_into` meets its contract: the pattern is what is listed, and its sum the one to divide by, where there is any.
 use mathlib.Core.Path.{◌≡◌, ◌∙◌}
 use native.Mathlib.Omega.{arith}
-use borrow.Author.Rules.{rules}
 use lib.ListN.{length}
 use Rattle.meaning.specs.Water.{sum_of, rain_of}
 use Rattle.storms.specs.Rains.{rain-sum, dry-total}
