@@ -38,7 +38,7 @@ module _ (s : List ℕ) (end : ℕ) where
   abbrev pub rest : List ℕ
   rest = take (length s - end) (drop end s)
 
-  rest_is : rest ≡ drop end s
+  pub rest_is : rest ≡ drop end s
   rest_is = ap (λ (n : ℕ). take n (drop end s)) (sym (length-drop end s)) ∙ take-length (drop end s)
 
   pub rest_lf : starts_with eqb rest (lf ∷ []) ≡ (get_or s end 0 =? lf)
