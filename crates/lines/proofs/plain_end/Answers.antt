@@ -6,7 +6,7 @@ use Rattle.std.proofs.lemmas.Iterator.{YieldsList-from_slice}
 use Rattle.std.proofs.lemmas.Iterator.Search.{position_from_yields_List}
 use Rattle.sequences.specs.Runs.{run, run_at_within}
 use Rattle.lines.specs.Line.{is_plain}
-use Rattle.lines.specs.Plain.{first_other}
+use Rattle.slices.specs.Stops.{first_other}
 use Rattle.lines.specs.Endings.{rest, rest_is}
 use Rattle.lines.proofs.plain_end.Goals.{After-unwrap_or}
 use Rattle.lines.proofs.plain_end.Goals as goal
