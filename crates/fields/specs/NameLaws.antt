@@ -1,6 +1,7 @@
 -- The name that stands there is the line's; and what makes a name bad.
 --     name-found    the part that the answer names is the name
-use Rattle.std.specs.Prelude.{ℕ, suc, ◌+◌, ◌-◌, ◌≤◌, ◌<◌, ◌≡◌, refl, Bool, true, false, List, [], ◌∷◌, length, take, drop, get_or}
+use Rattle.std.specs.Prelude.{ℕ, suc, ◌+◌, ◌-◌, ◌≤◌, ◌<◌, ◌≡◌, refl, Bool, true, false, ◌||◌, List, [], ◌∷◌, length, take, drop, get_or}
+use Rattle.std.specs.List.{list_any}
 use Rattle.std.proofs.Common.{sym, ◌∙◌, ap, ⊎_elim, add-one, arith, drop_of_length-le, drop-drop}
 use borrow.Author.Tests.{ne_eqb, lt-ltb, le-ltb, le-leb, lt-leb}
 use Rattle.std.proofs.Math.Seq.{drop-cons, take-nil}
@@ -101,6 +102,11 @@ module _ (s : List ℕ) (i : ℕ) where
   pub blank_nowhere : length s ≤ i → any_blank (drop i s) ≡ false
   unfolding any_blank
   blank_nowhere h = rw (drop_of_length-le s h)
+
+pub blanks_any : (s : List ℕ) → list_any (λ b. b =? blank) s ≡ any_blank s
+unfolding any_blank
+blanks_any [] = refl
+blanks_any (b ∷ s) = ap (λ (t : Bool). is_blank b || t) (blanks_any s)
 
 -- the ways through the definition of a bad name
 pub empty_bad : (s : List ℕ) → length s < 1 → true ≡ bad_name s

@@ -16,6 +16,6 @@ pub fn fixed_span(l: &[u8], c: usize, next: usize) -> Span
     Span {
         from: c + skipped,
         to: c + kept,
-        next: next,
+        next,
     }
 }

@@ -5,44 +5,30 @@ use Rattle.std.proofs.Math.Path.{refl}
 use Rattle.std.proofs.Math.Bool.{Bool, true, false, and-false}
 use Rattle.std.proofs.Math.Seq.{take-length}
 use Rattle.std.proofs.Common.{◌∙◌, ap, sym, add-zero, eq-eqb, ne_eqb, lt-ltb, le-ltb, le-leb, length-drop, get_or-drop}
-use Rattle.std.proofs.lemmas.Bool.{lt-leb, eqb-true, eqb-false}
+use Rattle.std.proofs.lemmas.Bool.{lt-leb}
 use Rattle.std.proofs.Math.ListN.{get_or-eq_default}
 use Rattle.meaning.specs.Words.{◌=?◌}
 use Rattle.meaning.specs.Lines.{lf, cr}
 use Rattle.sequences.specs.Choices.{taken, passed}
+use Rattle.slices.specs.Stops.{eqb-turned, begins_byte, begins_at}
 use Rattle.lines.specs.Line.{fair_line, unfair_line, line_ending, line_from}
 
-eqb-turned : (a b : ℕ) → eqb a b ≡ (b =? a)
-eqb-turned a b = go (eqb a b) refl
-  where
-    go : (t : Bool) → eqb a b ≡ t → t ≡ (b =? a)
-    go true e = sym (eq-eqb b a (sym (eqb-true a b e)))
-    go false e = sym (ne_eqb b a (λ g. eqb-false a b e (sym g)))
-
 -- what a text begins with, by its first bytes
-begins_lf : (r : List ℕ) → starts_with eqb r (lf ∷ []) ≡ (get_or r 0 0 =? lf)
-begins_lf [] = refl
-begins_lf (b ∷ r) = go (eqb lf b) (eqb-turned lf b)
-  where
-    go : (t : Bool) → t ≡ (b =? lf) → (t && true) ≡ (b =? lf)
-    go true e = e
-    go false e = e
-
 begins_cr-lf : (r : List ℕ) → starts_with eqb r (cr ∷ lf ∷ []) ≡ ((get_or r 0 0 =? cr) && (get_or r 1 0 =? lf))
 begins_cr-lf [] = refl
 begins_cr-lf (b ∷ []) = rw (and-false (eqb cr b), and-false (b =? cr)) refl
-begins_cr-lf (b ∷ d ∷ r) = rw (eqb-turned cr b) (ap (λ (t : Bool). (b =? cr) && t) (begins_lf (d ∷ r)))
+begins_cr-lf (b ∷ d ∷ r) = rw (eqb-turned cr b) (ap (λ (t : Bool). (b =? cr) && t) (begins_byte lf refl (d ∷ r)))
 
 -- the rest of a deck, as the code cuts it
 module _ (s : List ℕ) (end : ℕ) where
   abbrev pub rest : List ℕ
   rest = take (length s - end) (drop end s)
 
-  rest_is : rest ≡ drop end s
+  pub rest_is : rest ≡ drop end s
   rest_is = ap (λ (n : ℕ). take n (drop end s)) (sym (length-drop end s)) ∙ take-length (drop end s)
 
   pub rest_lf : starts_with eqb rest (lf ∷ []) ≡ (get_or s end 0 =? lf)
-  rest_lf = rw rest_is (begins_lf (drop end s) ∙ ap (λ (b : ℕ). b =? lf) (get_or-drop end s 0 0 ∙ ap (λ (n : ℕ). get_or s n 0) (add-zero end)))
+  rest_lf = rw rest_is (begins_at lf refl s end)
 
   pub rest_cr-lf : starts_with eqb rest (cr ∷ lf ∷ []) ≡ ((get_or s end 0 =? cr) && (get_or s (end + 1) 0 =? lf))
   rest_cr-lf = rw rest_is (begins_cr-lf (drop end s) ∙ rw (get_or-drop end s 0 0, get_or-drop end s 1 0, add-zero end) refl)

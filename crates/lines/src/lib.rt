@@ -2,7 +2,7 @@
 // it stops says what the line is.
 #![tactic(auto)]
 
-ghost use Rattle.std.specs.Prelude.{◌≡◌, ◌+◌, ◌<◌, length, drop};
+ghost use Rattle.std.specs.Prelude.{◌≡◌, ◌+◌, ◌≤◌, ◌<◌, length, drop};
 ghost use Rattle.sequences.specs.Runs.{run};
 ghost use Rattle.lines.specs.Line.{is_plain, line_at};
 
@@ -15,22 +15,23 @@ pub struct Line {
     pub next: usize,
 }
 
+// A printing byte, or a blank.
+fn is_plain(b: u8) -> bool
+    ensures { result ≡ is_plain b }
+{
+    matches!(b, b' '..=b'~')
+}
+
 // Where the plain bytes from `at` on stop.
 fn plain_end(s: &[u8], at: usize) -> usize
+    requires { at ≤ length s.now }
     ensures { result ≡ at + run is_plain (drop at s.now) }
 {
-    let mut i = at;
-    while i < s.len() {
-        let b = s[i];
-        if b < 0x20 {
-            return i;
-        }
-        if 0x7E < b {
-            return i;
-        }
-        i += 1;
-    }
-    i
+    let rest = &s[at..];
+    at + rest
+        .iter()
+        .position(|b| !is_plain(*b))
+        .unwrap_or(rest.len())
 }
 
 // The line that starts at `at`, behind whose plain bytes the deck ends, or LF stands, or CR and LF; else it meets refusal 3.

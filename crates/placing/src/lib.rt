@@ -59,8 +59,8 @@ pub fn open_block(r: Reading, name: Name, cards: &mut [u64]) -> Reading
     Reading {
         phase: Phase::InBlock,
         free: r.free,
-        time: time,
-        name: name,
+        time,
+        name,
     }
 }
 

@@ -27,8 +27,8 @@ fn copy_name(f: &[u8]) -> Name
     let letters = f.len();
     bytes[..letters].copy_from_slice(f);
     Name {
-        bytes: bytes,
-        letters: letters,
+        bytes,
+        letters,
     }
 }
 

@@ -1,22 +1,16 @@
--- The loop's end stays the end of the same run of blanks.
-use borrow.Author.Rules.{rules}
-use native.Mathlib.Omega.{arith}
-use borrow.Author.Tests.{eq-eqb, ne_eqb}
+-- The first byte that is no blank ends the run of blanks.
+use Rattle.std.proofs.Common.{rules, tests, ◌≡◌, ◌+◌, ◌∙◌, ap, not, length}
+use Rattle.std.specs.Option.{unwrap_or}
+use Rattle.std.specs.List.{position}
+use Rattle.std.proofs.lemmas.Iterator.{YieldsList-from_slice}
+use Rattle.std.proofs.lemmas.Iterator.Search.{position_from_yields_List}
 use Rattle.meaning.specs.Fields.{is_blank}
-use Rattle.sequences.specs.Runs.{run_more, run-stop, run_end}
+use Rattle.sequences.specs.Runs.{run}
+use Rattle.slices.specs.Stops.{first_other}
 use Rattle.fields.proofs.past_blanks.Goals as goal
-
-pub returns-then-b-ne32 : goal.returns-then-b-ne32
-returns-then-b-ne32 c =
-    let p = c in
-    omega (arith, run-stop is_blank p.args.l.now p.loop-i.i (search rules) (ne_eqb _ _ c.if-b-ne32.true))
-
-pub loop-i-preserved : goal.loop-i-preserved
-loop-i-preserved c =
-    let p = c in
-    omega (arith, run_more is_blank p.args.l.now p.loop-i.i (search rules) (eq-eqb _ _ c.if-b-ne32.false))
 
 pub returns : goal.returns
 returns c =
-    let p = c in
-    omega (arith, run_end is_blank p.args.l.now p.loop-i.i (search rules))
+    let s = c.rest_from-rest.result.now in
+    let found : c.position.result ≡ position (λ b. not (is_blank b)) s = position_from_yields_List (λ b. not (is_blank b)) _ _ c.position.result c.position.ensures.ran (YieldsList-from_slice _ c.iter.ensures.rest) (λ x b q k. search (rules, tests)) in
+    ap (λ n. c.args.at + n) (c.unwrap_or.ensures ∙ ap (λ o. unwrap_or o (length s)) found ∙ first_other is_blank s ∙ ap (run is_blank) c.rest_from-rest.ensures)

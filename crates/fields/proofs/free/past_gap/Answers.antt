@@ -1,25 +1,23 @@
 -- Each way out is one way through what separates two values.
-use Prim.Native.Nat.{◌+◌}
-use mathlib.Core.Path.{◌≡◌, ◌∙◌, ap}
+use Rattle.std.proofs.Common.{rules, ◌≡◌, ◌+◌, ◌∙◌, refl, sym, ap, List, ℕ, eqb, ◌∷◌, []}
+use Rattle.std.specs.List.{starts_with}
+use borrow.Author.Tests.{eqb-true, eqb-false}
+use Rattle.meaning.specs.Fields.{comma}
+use Rattle.slices.specs.Stops.{begins_at}
 use Rattle.fields.specs.Spans.{blanks_end, gap_from}
-use Rattle.fields.specs.Free.{gap_comma, gap_other, gap_none}
+use Rattle.fields.specs.Free.{gap_comma, gap_other}
 use Rattle.fields.proofs.free.past_gap.Goals as goal
 
-pub returns-then-mark-eq44 : goal.returns-then-mark-eq44
-returns-then-mark-eq44 c =
+pub returns-then-starts_with : goal.returns-then-starts_with
+returns-then-starts_with c =
     let l = c.args.l.now in
     let i = c.past_blanks-i in
-    let past : c.past_blanks.result ≡ blanks_end l (i.result + 1) = c.past_blanks.ensures in
-    past ∙ gap_comma l i.result c.if-mark-eq44.true ∙ ap (gap_from l) i.ensures
+    let begins = c.starts_with.ensures.value ∙ ap (λ (s : List ℕ). starts_with eqb s (comma ∷ [])) c.rest_from.ensures ∙ begins_at comma refl l i.result in
+    c.past_blanks.ensures ∙ gap_comma l i.result (eqb-true _ _ (sym begins ∙ c.if-starts_with.true)) ∙ ap (gap_from l) i.ensures
 
-pub returns-else-mark-eq44 : goal.returns-else-mark-eq44
-returns-else-mark-eq44 c =
+pub returns : goal.returns
+returns c =
     let l = c.args.l.now in
     let i = c.past_blanks-i in
-    gap_other l i.result c.if-mark-eq44.false ∙ ap (gap_from l) i.ensures
-
-pub returns-else-i-l : goal.returns-else-i-l
-returns-else-i-l c =
-    let l = c.args.l.now in
-    let i = c.past_blanks-i in
-    gap_none l i.result c.if-i-l.false ∙ ap (gap_from l) i.ensures
+    let begins = c.starts_with.ensures.value ∙ ap (λ (s : List ℕ). starts_with eqb s (comma ∷ [])) c.rest_from.ensures ∙ begins_at comma refl l i.result in
+    gap_other l i.result (eqb-false _ _ (sym begins ∙ c.if-starts_with.false)) ∙ ap (gap_from l) i.ensures

@@ -1,27 +1,16 @@
--- The loop's end stays the end of the same value.
-use borrow.Author.Rules.{rules}
-use native.Mathlib.Omega.{arith}
-use Rattle.sequences.specs.Runs.{run_more, run-stop, run_end}
+-- The first byte that ends a value ends the run of a value's bytes.
+use Rattle.std.proofs.Common.{rules, tests, ◌≡◌, ◌+◌, ◌∙◌, ap, not, length}
+use Rattle.std.specs.Option.{unwrap_or}
+use Rattle.std.specs.List.{position}
+use Rattle.std.proofs.lemmas.Iterator.{YieldsList-from_slice}
+use Rattle.std.proofs.lemmas.Iterator.Search.{position_from_yields_List}
+use Rattle.sequences.specs.Runs.{run}
+use Rattle.slices.specs.Stops.{first_other}
 use Rattle.fields.specs.Spans.{in_value}
-use Rattle.fields.specs.Free.{value_goes_on, blank_ends, comma_ends}
 use Rattle.fields.proofs.free.value_end.Goals as goal
-
-pub returns-then-b-eq32 : goal.returns-then-b-eq32
-returns-then-b-eq32 c =
-    let p = c in
-    omega (arith, run-stop in_value p.args.l.now p.loop-i.i (search rules) (blank_ends _ c.if-b-eq32.true))
-
-pub returns-then-b-eq44 : goal.returns-then-b-eq44
-returns-then-b-eq44 c =
-    let p = c in
-    omega (arith, run-stop in_value p.args.l.now p.loop-i.i (search rules) (comma_ends _ c.if-b-eq44.true))
-
-pub loop-i-preserved : goal.loop-i-preserved
-loop-i-preserved c =
-    let p = c in
-    omega (arith, run_more in_value p.args.l.now p.loop-i.i (search rules) (value_goes_on _ c.if-b-eq32.false c.if-b-eq44.false))
 
 pub returns : goal.returns
 returns c =
-    let p = c in
-    omega (arith, run_end in_value p.args.l.now p.loop-i.i (search rules))
+    let s = c.rest_from-rest.result.now in
+    let found : c.position.result ≡ position (λ b. not (in_value b)) s = position_from_yields_List (λ b. not (in_value b)) _ _ c.position.result c.position.ensures.ran (YieldsList-from_slice _ c.iter.ensures.rest) (λ x b q k. search (rules, tests)) in
+    ap (λ n. c.args.at + n) (c.unwrap_or.ensures ∙ ap (λ o. unwrap_or o (length s)) found ∙ first_other in_value s ∙ ap (run in_value) c.rest_from-rest.ensures)
