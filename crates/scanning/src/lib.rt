@@ -11,7 +11,6 @@ ghost use Rattle.scanning.specs.Scans.{scanned_of, blank_by};
 ghost use Rattle.scanning.specs.FieldsLeft.{left_by, blank_span, next_span};
 
 use fields::Span;
-use rules::Field;
 
 // What a pass over a line's fields keeps beside their values: the place of the last field that is not blank, from 1, and whether a value is outside its limits.
 #[derive(Clone, Copy)]
@@ -73,15 +72,15 @@ pub fn note_field(values: &mut [u64], scan: Scan, item: usize, k: usize, f: &[u8
     ensures scan_after_2 { result.faulty ≡ true → scanned_of values.new result.scan ≡ scanned_of values.old scan }
 {
     match records::field_at(item, k, f) {
-        Field::Faulty => Noted {
+        None => Noted {
             faulty: true,
             scan: scan,
         },
-        Field::Value(v, outside) => {
-            keep(values, k, v);
+        Some(held) => {
+            keep(values, k, held.value);
             Noted {
                 faulty: false,
-                scan: note(scan, k, f.len(), outside),
+                scan: note(scan, k, f.len(), held.outside),
             }
         }
     }

@@ -6,13 +6,13 @@ use Rattle.scanning.specs.Scans.{noted_by}
 use borrow.Author.Rules.{rules}
 use Rattle.scanning.proofs.note_field.Goals as goal
 
-pub returns-in-Faulty : goal.returns-in-Faulty
-returns-in-Faulty c = record { faulty_value = sym (rw c.in-Faulty.is at c.field_at.ensures); scan_after = λ z. absurd (true≢false z); scan_after_2 = λ z. refl }
+pub returns-in-None : goal.returns-in-None
+returns-in-None c = record { faulty_value = sym (rw c.in-None.is at c.field_at.ensures); scan_after = λ z. absurd (true≢false z); scan_after_2 = λ z. refl }
 
-pub returns-in-Value : goal.returns-in-Value
-returns-in-Value c =
+pub returns-in-Some : goal.returns-in-Some
+returns-in-Some c =
     let x = c.args in
-    let e = rw c.in-Value.is at c.field_at.ensures in
+    let e = rw c.in-Some.is at c.field_at.ensures in
     let done =
     noted_by (rules_by x.item) x.k x.f.now x.values.now x.scan c.keep.new.values c.note.result _ _
     c.keep.ensures
