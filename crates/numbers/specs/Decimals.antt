@@ -141,7 +141,7 @@ module _ (s : List ℕ) (d : Digits) (found : d ≡ digits_from s 0 0) where
   first_run : d.end ≡ run is_digit s
   first_run = ap (λ (x : Digits). x.end) found ∙ omega arith
 
-  first_within : d.end ≤ length s
+  pub first_within : d.end ≤ length s
   first_within = omega (arith, first_run, run_within is_digit s)
 
   first_value : read_on 0 (take d.end s) ≡ d.value

@@ -1,16 +1,15 @@
 -- What the answers mean, and what the runs of digits in a number are.
-use Rattle.std.specs.Prelude.{ℕ, ◌+◌, Bool, ◌&&◌, List, take, drop}
+use Rattle.std.specs.Prelude.{ℕ, ◌+◌, Bool, ◌&&◌, List, take, drop, Option, Some, None}
 use Rattle.meaning.specs.Words.{◌≤?◌, when◌then◌else◌}
 use Rattle.meaning.specs.Numbers.{is_sign, is_digit, read_on}
 use Rattle.meaning.specs.Numbers as meaning
 use Rattle.sequences.specs.Runs.{run}
 use Rattle.numbers.specs.declared.Digits.{Digits}
-use Rattle.numbers.specs.declared.Number.{Number}
-use Rattle.numbers.specs.declared.Number.TheVariants.{NoNumber, Decimal}
+use Rattle.numbers.specs.declared.Decimal.{Decimal}
 
-abbrev pub number_is : Number → meaning.Number
-number_is NoNumber = meaning.NoNumber
-number_is (Decimal minus digits places) = meaning.Decimal minus digits places
+abbrev pub number_is : Option Decimal → meaning.Number
+number_is None = meaning.NoNumber
+number_is (Some d) = meaning.Decimal d.minus d.digits d.places
 
 unfoldable pub sign_length : ℕ → ℕ
 sign_length b = when is_sign b then 1 else 0

@@ -7,11 +7,12 @@ ghost use Rattle.meaning.specs.Fields.{trim_end};
 ghost use Rattle.meaning.specs.Numbers.{is_zero, number_of, decimal_of};
 ghost use Rattle.numbers.specs.Reading.{number_is, sign_length, digits_from, counted};
 
-// Nothing that is a number; or whether below 0, the digits that are left and how many of them stand behind the point.
+// A number: whether it is below 0, the digits that are left and how many of them stand behind the point.
 #[derive(Clone, Copy)]
-pub enum Number {
-    NoNumber,
-    Decimal(bool, u64, u64),
+pub struct Decimal {
+    pub minus: bool,
+    pub digits: u64,
+    pub places: u64,
 }
 
 // A run of digits: where it ends, and the number that it reads on to.
@@ -26,20 +27,17 @@ fn read_digits(s: &[u8], start: u64) -> Digits
     requires { (length s.now ≤ 10) × (start < 10 ^ 9) }
     ensures { result ≡ digits_from s.now 0 start }
 {
-    let mut i = 0;
-    let mut v = start;
-    while i < s.len() {
-        let b = s[i] as u64;
-        if b < 0x30 {
-            return Digits { end: i, value: v };
+    let mut value = start;
+    for (i, &b) in s.iter().enumerate() {
+        if !b.is_ascii_digit() {
+            return Digits { end: i, value };
         }
-        if 0x39 < b {
-            return Digits { end: i, value: v };
-        }
-        v = 10 * v + (b - 0x30);
-        i += 1;
+        value = 10 * value + (b - b'0') as u64;
     }
-    Digits { end: i, value: v }
+    Digits {
+        end: s.len(),
+        value,
+    }
 }
 
 // How many places are left of a fraction when its trailing zeros are taken off.
@@ -50,70 +48,68 @@ fn places_left(fraction: &[u8]) -> usize
 }
 
 // A number without a fraction has one digit at least and nine at most.
-fn count_digits(minus: bool, digits: u64, count: usize) -> Number
+fn count_digits(minus: bool, digits: u64, count: usize) -> Option<Decimal>
     ensures { number_is result ≡ counted minus digits count 0 }
 {
-    if count < 1 {
-        return Number::NoNumber;
+    match count {
+        1..=9 => Some(Decimal {
+            minus,
+            digits,
+            places: 0,
+        }),
+        _ => None,
     }
-    if 9 < count {
-        return Number::NoNumber;
-    }
-    Number::Decimal(minus, digits, 0)
 }
 
 // The number that stands behind a sign, if there was one. With a fraction it has one digit at least, and not ten: there is no room for them beside the point.
 // Trailing zeros are digits, so that they have their part in that room, but are not read.
-fn read_unsigned(minus: bool, s: &[u8]) -> Number
+fn read_unsigned(minus: bool, s: &[u8]) -> Option<Decimal>
     requires { length s.now ≤ 10 }
     ensures { number_is result ≡ decimal_of minus s.now }
 {
     let whole = read_digits(s, 0);
-    let end = whole.end;
-    if s.len() <= end {
-        return count_digits(minus, whole.value, end);
+    match &s[whole.end..] {
+        [] | [b'.'] => count_digits(minus, whole.value, whole.end),
+        [b'.', fraction @ ..] => {
+            let places = places_left(fraction);
+            let left = read_digits(&fraction[..places], whole.value);
+            if left.end < places {
+                return None;
+            }
+            Some(Decimal {
+                minus,
+                digits: left.value,
+                places: places as u64,
+            })
+        }
+        _ => None,
     }
-    let b = s[end];
-    if b != 0x2E {
-        return Number::NoNumber;
-    }
-    let fraction = &s[end + 1..];
-    if fraction.len() < 1 {
-        return count_digits(minus, whole.value, end);
-    }
-    let places = places_left(fraction);
-    let left = read_digits(&fraction[..places], whole.value);
-    if left.end < places {
-        return Number::NoNumber;
-    }
-    Number::Decimal(minus, left.value, places as u64)
 }
 
 // How many bytes a sign takes, if `b` is one.
 fn sign_length(b: u8) -> usize
     ensures { result ≡ sign_length b }
 {
-    if b == 0x2B {
-        return 1;
+    match b {
+        b'+' | b'-' => 1,
+        _ => 0,
     }
-    if b == 0x2D {
-        return 1;
-    }
-    0
 }
 
 // The number in a field, which has no blanks around it. Nine digits and a point are ten bytes: what is longer, without its sign, is none.
-pub fn read_number(f: &[u8]) -> Number
+pub fn read_number(f: &[u8]) -> Option<Decimal>
     ensures { number_is result ≡ number_of f.now }
 {
-    if f.len() < 1 {
-        return Number::Decimal(false, 0, 0);
-    }
-    let b = f[0];
-    let at = sign_length(b);
-    let s = &f[at..];
+    let Some(&b) = f.first() else {
+        return Some(Decimal {
+            minus: false,
+            digits: 0,
+            places: 0,
+        });
+    };
+    let s = &f[sign_length(b)..];
     if 10 < s.len() {
-        return Number::NoNumber;
+        return None;
     }
-    read_unsigned(b == 0x2D, s)
+    read_unsigned(b == b'-', s)
 }

@@ -9,7 +9,8 @@ ghost use Rattle.rules.specs.Rules.{rule_by, FieldIs};
 ghost use Rattle.records.specs.OwnRules.{own_rule};
 ghost use Rattle.records.specs.Keys.{key_in, place_of};
 
-use rules::{Field, Rule};
+use refusals::Refusal;
+use rules::{Held, Rule};
 
 // The records that a block holds, each by its place in the table of records.
 pub const BA: usize = 0;
@@ -141,7 +142,7 @@ fn own_rule(item: usize, k: usize) -> Rule
             _ => Rule::Unnamed,
         },
         JR => match k {
-            0 => Rule::Worded(6, 4, 0x50524543, 0x50524543),
+            0 => Rule::Worded(Refusal::Malformed, 4, 0x50524543, 0x50524543),
             1..=9 => Rule::Limited(2, 0, 999),
             _ => Rule::Unnamed,
         },
@@ -174,7 +175,7 @@ fn own_rule(item: usize, k: usize) -> Rule
         },
         RS => match k {
             0 => Rule::Limited(0, 1, 1),
-            1 => Rule::Worded(7, 4, 0x53544F52, 0x53544F52),
+            1 => Rule::Worded(Refusal::OutsideLimits, 4, 0x53544F52, 0x53544F52),
             2 => Rule::Limited(0, 0, 0),
             _ => Rule::Unnamed,
         },
@@ -195,7 +196,7 @@ pub fn rule_at(item: usize, k: usize) -> Rule
 }
 
 // Field `k` of a record, counted from 0.
-pub fn field_at(item: usize, k: usize, f: &[u8]) -> Field
+pub fn field_at(item: usize, k: usize, f: &[u8]) -> Option<Held>
     ensures { FieldIs result (faulty_field (rule_at (rules_by item) k) f.now) (outside_field (rule_at (rules_by item) k) f.now) (value_of (rule_at (rules_by item) k) f.now) }
 {
     rules::read_field(rule_at(item, k), f)

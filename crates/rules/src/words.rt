@@ -3,26 +3,22 @@ ghost use Rattle.std.specs.Prelude.{◌≡◌, ◌≤◌};
 ghost use Rattle.meaning.specs.Records.{word_in};
 ghost use Rattle.amounts.specs.Values.{value_is};
 
-use amounts::Value;
+use amounts::Fault;
 
 // The word in a field of at most so many characters. Eight bytes at most, so that the number fits.
-pub fn read_word(f: &[u8], most: u64) -> Value
+pub fn read_word(f: &[u8], most: u64) -> Result<u64, Fault>
     requires { most ≤ 8 }
     ensures { value_is result ≡ word_in most f.now }
 {
     if most < f.len() as u64 {
-        return Value::Malformed;
+        return Err(Fault::Malformed);
     }
-    let mut i: usize = 0;
-    let mut v: u64 = 0;
-    while i < f.len() {
-        let b = f[i];
-        if b == 0x20 {
-            return Value::Malformed;
+    let mut word = 0;
+    for &b in f {
+        if b == b' ' {
+            return Err(Fault::Malformed);
         }
-        let w = b as u64;
-        v = v * 256 + w;
-        i += 1;
+        word = word * 256 + b as u64;
     }
-    Value::Units(v)
+    Ok(word)
 }

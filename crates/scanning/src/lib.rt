@@ -11,7 +11,6 @@ ghost use Rattle.scanning.specs.FieldsLeft.{left_by, blank_span, next_span};
 
 use fields::Span;
 use refusals::Refusal;
-use rules::Field;
 
 // What a pass over a line's fields keeps beside their values: the place of the last field that is not blank, from 1, and whether a value is outside its limits.
 #[derive(Clone, Copy)]
@@ -53,10 +52,10 @@ pub fn note_field(
     ensures { Notes (rules_by item) k f.now values.old scan values.new result }
 {
     match records::field_at(item, k, f) {
-        Field::Faulty => Err(Refusal::Malformed),
-        Field::Value(v, outside) => {
-            keep(values, k, v);
-            Ok(note(scan, k, f.len(), outside))
+        None => Err(Refusal::Malformed),
+        Some(held) => {
+            keep(values, k, held.value);
+            Ok(note(scan, k, f.len(), held.outside))
         }
     }
 }

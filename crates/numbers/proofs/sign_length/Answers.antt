@@ -1,18 +1,15 @@
 -- Each way out is one way through the definition's test.
-use borrow.Author.Rules.{rules}
+use Rattle.std.proofs.Common.{rules, ⊎_elim}
+use mathlib.Core.Path.{◌≡◌, refl}
 use Rattle.meaning.specs.Words.{when◌then◌else◌}
 use Rattle.sequences.specs.Choices.{tests}
 use Rattle.numbers.specs.Reading.{sign_length}
 use Rattle.numbers.proofs.sign_length.Goals as goal
 
-pub returns-then-b-eq43 : goal.returns-then-b-eq43
+pub returns-in-43 : goal.returns-in-43
 unfolding sign_length when◌then◌else◌
-returns-then-b-eq43 c = search (rules, tests)
+returns-in-43 c = ⊎_elim (λ (e : c.args.b ≡ 43). rw e refl) (λ (e : c.args.b ≡ 45). rw e refl) c.in-43.is
 
-pub returns-then-b-eq45 : goal.returns-then-b-eq45
+pub returns-in_default : goal.returns-in_default
 unfolding sign_length when◌then◌else◌
-returns-then-b-eq45 c = search (rules, tests)
-
-pub returns : goal.returns
-unfolding sign_length when◌then◌else◌
-returns c = search (rules, tests)
+returns-in_default c = search (rules, tests)
