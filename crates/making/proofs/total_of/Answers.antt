@@ -4,7 +4,6 @@ use mathlib.Core.Path.{◌≡◌, refl, sym, ap, ◌∙◌}
 use mathlib.Core.Bool.{true}
 use mathlib.Core.List.{[]}
 use native.Mathlib.Omega.{arith}
-use borrow.Author.Rules.{rules}
 use Rattle.sequences.specs.Choices.{taken, passed}
 use Rattle.meaning.specs.Records.{PB}
 use Rattle.meaning.specs.Water.{ten_thousandth}
