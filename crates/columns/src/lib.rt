@@ -16,12 +16,8 @@ fn find_losses(losses: &mut [u64], rains: &[u64], excesses: &[u64])
     requires by_index { (k : ℕ) → get_or excesses.now k 0 ≤ get_or rains.now k 0 }
     ensures { losses.new ≡ list_from (λ (k : ℕ). get_or rains.now k 0 - get_or excesses.now k 0) 0 (length losses.old) }
 {
-    let mut k = 0;
-    while k < losses.len() {
-        let rain = rains[k];
-        let left = excesses[k];
-        losses[k] = rain - left;
-        k += 1;
+    for (k, loss) in losses.iter_mut().enumerate() {
+        *loss = rains[k] - excesses[k];
     }
 }
 

@@ -40,17 +40,13 @@ pub fn hold_none() -> Stack
     }
 }
 
-fn push(stack: Stack, area: u32) -> Stack
+fn push(mut stack: Stack, area: u32) -> Stack
     requires { stack.depth + 1 ≤ 20 }
     ensures { result ≡ pushed area stack }
 {
-    let at = stack.depth;
-    let mut areas = stack.areas;
-    areas[at] = area;
-    Stack {
-        areas,
-        depth: at + 1,
-    }
+    stack.areas[stack.depth] = area;
+    stack.depth += 1;
+    stack
 }
 
 // A basin: the runoff of its storm is held.
@@ -93,11 +89,9 @@ fn add_from(s: &mut [u64], from: usize, n: usize)
     requires by_index { (k : ℕ) → k < n → get_or s.old k 0 + get_or s.old (from + k) 0 < 2 ^ 64 }
     ensures { s.new ≡ plus (part from n s.old) s.old }
 {
-    let mut i = 0;
-    while i < n {
+    for i in 0..n {
         let j = from + i;
-        s[i] = s[j] + s[i];
-        i += 1;
+        s[i] += s[j];
     }
 }
 
@@ -128,10 +122,8 @@ pub fn join_last(work: &mut [u64], stack: Stack, nq: usize, n: usize) -> Stack
     ensures held { view result nq work.new ≡ total (take n (view stack nq work.old)) ∷ drop n (view stack nq work.old) }
 {
     let mut joined = stack;
-    let mut left = n - 1;
-    while 0 < left {
+    for _ in 1..n {
         joined = join_pair(work, joined, nq);
-        left -= 1;
     }
     joined
 }

@@ -7,6 +7,3 @@ use Rattle.columns.proofs.find_losses.Given as goal
 
 abbrev pub invariant-loop-k : goal.invariant-loop-k
 invariant-loop-k l = Filled (λ (i : ℕ). get_or l.rains i 0 - get_or l.excesses i 0) l.initial.losses l.losses l.k
-
-abbrev pub decreases-loop-k : goal.decreases-loop-k
-decreases-loop-k l = length l.initial.losses - l.k

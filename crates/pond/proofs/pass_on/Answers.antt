@@ -1,13 +1,12 @@
 -- `pond::pass_on` meets its contract. The first ordinates are outflows, and behind them stand the inflows of the pools still to come, whose outflows are to be put
 -- there. Whether a pool is above the last row is asked of those that were and of those to come.
 use Prim.Native.Nat.{ℕ, ◌≤◌, ◌<◌, ◌+◌, ◌-◌, ◌*◌}
-use mathlib.Core.Path.{◌≡◌, refl, sym, ap, ◌∙◌}
-use mathlib.Core.Bool.{Bool, ◌||◌, or-false}
-use mathlib.Core.List.{List, []}
+use mathlib.Core.Path.{◌≡◌, refl, ap, ◌∙◌}
+use mathlib.Core.Bool.{Bool, ◌||◌}
+use mathlib.Core.List.{List}
 use native.Mathlib.Nat.{mul-zero, le_trans}
 use native.Mathlib.Omega.{arith}
-use lib.ListN.{length, drop, get_or, drop_of_length-le}
-use Rattle.sequences.specs.Overwriting.{overwrite_done}
+use lib.ListN.{length, get_or}
 use Rattle.sequences.specs.Bounds.{bound_set}
 use Rattle.meaning.specs.Words.{◌<?◌}
 use Rattle.meaning.specs.Water.{flow_limit}
@@ -18,7 +17,7 @@ use Rattle.pond.specs.Limits.{Interval, row_flow, w-after_limit}
 use Rattle.pond.specs.Spans.{found_graded, found_outflow, found-over}
 use Rattle.pond.specs.Levels.{row_listed, span_listed}
 use Rattle.pond.specs.Searches.{Sought}
-use Rattle.pond.specs.Turns.{pool_of, outflows_after, outflow_turn, above_turn}
+use Rattle.pond.specs.Turns.{pool_of, outflow_turn, above_turn}
 use Rattle.pond.proofs.pass_on.Goals as goal
 
 -- There are two rows at least.

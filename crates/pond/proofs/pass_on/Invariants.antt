@@ -4,7 +4,7 @@ use Prim.Native.Nat.{ℕ, ◌≤◌, ◌*◌}
 use mathlib.Core.Path.{◌≡◌}
 use mathlib.Core.Bool.{Bool, ◌||◌}
 use mathlib.Core.List.{List, ◌++◌}
-use lib.ListN.{length, take, drop}
+use lib.ListN.{take, drop}
 use Rattle.sequences.specs.Bounds.{AllUpTo}
 use Rattle.meaning.specs.Water.{flow_limit}
 use Rattle.meaning.specs.Pool.{rows_of}

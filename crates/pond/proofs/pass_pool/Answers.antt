@@ -1,6 +1,6 @@
 -- `pond::pass_pool` meets its contract: the pool starts at W 0 and outflow 0, and the ordinates behind the first are passed on.
-use Rattle.std.proofs.Common.{ℕ, suc, ◌-◌, ◌<◌, ◌≡◌, refl, sym, ◌∙◌, List, [], ◌∷◌, ◌++◌, length, take, drop, set, arith, take_all, zero-le}
-use Rattle.sequences.specs.Bounds.{AllUpTo, bound_set}
+use Rattle.std.proofs.Common.{ℕ, suc, ◌-◌, ◌<◌, ◌≡◌, sym, ◌∙◌, List, [], ◌∷◌, length, take, drop, set, arith, take_all}
+use Rattle.sequences.specs.Bounds.{AllUpTo}
 use Rattle.sequences.specs.Parts.{put, put_tail}
 use Rattle.meaning.specs.Water.{flow_limit}
 use Rattle.meaning.specs.Pool.{rows_of}

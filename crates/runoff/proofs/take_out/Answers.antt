@@ -3,7 +3,7 @@ use Prim.Native.Nat.{ℕ}
 use mathlib.Core.Path.{refl, sym}
 use native.Mathlib.Omega.{arith}
 use lib.ListN.{length, get_or, replicate, length-replicate}
-use Rattle.sequences.specs.Rewriting.{rewritten_none, rewritten_more, rewritten_all}
+use Rattle.sequences.specs.Rewriting.{rewritten_more, rewritten_all}
 use Rattle.sequences.specs.Zeros.{get_or_alike}
 use Rattle.runoff.proofs.take_out.Goals as goal
 
@@ -16,7 +16,7 @@ overflow_cast-excess c =
 pub loop-k-preserved : goal.loop-k-preserved
 loop-k-preserved c =
     let l = c.loop-k in
-    (rewritten_more _ _ _ _ _ l.invariant.0 (omega arith) (l.invariant.1.same l.k (omega arith)), rewritten_more _ _ _ _ _ l.invariant.1 (omega arith) refl, omega arith)
+    (rewritten_more _ _ _ _ _ l.invariant.0 (omega arith) (l.invariant.1.same l.k (omega arith)), rewritten_more _ _ _ _ _ l.invariant.1 (omega arith) refl)
 
 pub returns : goal.returns
 returns c =
@@ -28,12 +28,3 @@ returns c =
       rewritten_all (λ (i : ℕ). 0) q₀ l.q (replicate (length q₀) 0) l.k l.invariant.1 (length-replicate (length q₀) 0) (λ (i : ℕ) before below. sym (get_or_alike (length q₀) i 0))
           (λ (i : ℕ) from below. absurd (omega arith)),
     )
-
-pub loop-k-init : goal.loop-k-init
-loop-k-init c = (rewritten_none _ _ _ (omega arith), rewritten_none _ _ _ (omega arith), omega arith)
-
-pub shape_of-q : goal.shape_of-q
-shape_of-q c = c.loop-k.invariant.1.long
-
-pub shape_of-excess : goal.shape_of-excess
-shape_of-excess c = c.loop-k.invariant.0.long

@@ -44,6 +44,3 @@ returns c =
     let xs = part s.args.from s.args.n s.args.s.now in
     let long : length xs ≡ s.args.n = length_part s.args.from s.args.n s.args.s.now (omega arith) in
     sym (overwrite_rest (plus (drop l.i xs)) l.s l.i (plus_done xs _ l.i (omega arith))) ∙ l.invariant.done
-
-pub shape_of-s : goal.shape_of-s
-shape_of-s c = c.loop-i.invariant.long

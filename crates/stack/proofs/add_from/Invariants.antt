@@ -15,6 +15,3 @@ pub record Inv (s₀ : List ℕ) (from n : ℕ) (s : List ℕ) (i : ℕ) : Type 
 
 abbrev pub invariant-loop-i : goal.invariant-loop-i
 invariant-loop-i l = Inv l.initial.s l.from l.n l.s l.i
-
-abbrev pub decreases-loop-i : goal.decreases-loop-i
-decreases-loop-i l = l.n - l.i

@@ -21,8 +21,5 @@ pub record Inv (work₀ : List ℕ) (nq n : ℕ) (stack : Stack) (work : List �
   pub stack_done : joined_stack left joined ≡ joined_stack (n - 1) stack
   pub words_done : joined_all_words left joined.depth nq work ≡ joined_all_words (n - 1) stack.depth nq work₀
 
-abbrev pub invariant-loop-left : goal.invariant-loop-left
-invariant-loop-left l = Inv l.initial.work l.nq l.n l.initial.joined l.work l.joined l.left
-
-abbrev pub decreases-loop-left : goal.decreases-loop-left
-decreases-loop-left l = l.left
+abbrev pub invariant-loop : goal.invariant-loop
+invariant-loop l = Inv l.initial.work l.nq l.n l.initial.joined l.work l.joined (l.n - l.counter)
