@@ -1,5 +1,5 @@
 -- What a block of each kind that was read and is not refused gives to the functions of water.
-use Rattle.std.specs.Prelude.{ℕ, ◌+◌, ◌*◌, ◌≤◌, ◌≡◌, refl, Bool, true, false, length}
+use Rattle.std.specs.Prelude.{ℕ, None, Some, ◌+◌, ◌*◌, ◌≤◌, ◌≡◌, refl, Bool, true, false, length}
 use Rattle.std.proofs.Common.{ap, ◌∙◌, arith}
 use Rattle.meaning.specs.Words.{when◌then◌else◌}
 use Rattle.meaning.specs.Records.{PI, UI, HC, PB, table}

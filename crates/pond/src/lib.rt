@@ -1,16 +1,16 @@
 // Ponds: level-pool routing by modified Puls, in place: a hydrograph of inflows becomes that of the outflows. And refusal 19, of a pond's table.
 #![tactic(auto)]
 
-ghost use Rattle.std.specs.Prelude.{◌≡◌, ◌||◌, ◌++◌, ℕ, ◌+◌, ◌*◌, ◌/◌, ◌≤◌, ◌<◌, length, get_or, take, drop, replicate};
+ghost use Rattle.std.specs.Prelude.{◌≡◌, ◌||◌, ℕ, ◌+◌, ◌*◌, ◌/◌, ◌≤◌, ◌<◌, length, get_or, drop};
 ghost use Rattle.sequences.specs.Bounds.{AllUpTo};
 ghost use Rattle.meaning.specs.Words.{◌<?◌};
 ghost use Rattle.meaning.specs.Water.{flow_limit};
 ghost use Rattle.meaning.specs.Records.{most_ordinates};
-ghost use Rattle.meaning.specs.Pool.{pool_row, rows_of, w_of, row_breaks, rows_break, table_breaks, w_after, ponded_of, overtopped};
+ghost use Rattle.meaning.specs.Pool.{rows_of, w_of, row_breaks, rows_break, table_breaks, w_after, ponded_of, overtopped};
 ghost use Rattle.pond.specs.Tables.{TableWithin, PondTable, row_at};
 ghost use Rattle.pond.specs.Limits.{Interval};
 ghost use Rattle.pond.specs.Spans.{Found, outflow_in, Graded};
-ghost use Rattle.pond.specs.Levels.{rise_at, no_w, WsOf, RisesOf, span_in, Listed};
+ghost use Rattle.pond.specs.Levels.{rise_at, WsOf, RisesOf, span_in, Listed};
 ghost use Rattle.pond.specs.Searches.{Topped, Climbed, Sunk, Sought, Searchable};
 ghost use Rattle.pond.specs.Turns.{pool_of, outflows_after, above_after};
 

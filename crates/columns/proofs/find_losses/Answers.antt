@@ -1,8 +1,6 @@
 -- `columns::find_losses` meets its contract: a loop that fills a list with a function of the place.
-use Prim.Native.Nat.{ℕ, ◌-◌}
 use native.Mathlib.Omega.{arith}
-use lib.ListN.{length, get_or}
-use Rattle.sequences.specs.Filling.{Filled, filled_none, filled_more, filled_all}
+use Rattle.sequences.specs.Filling.{filled_none, filled_more, filled_all}
 use Rattle.columns.proofs.find_losses.Goals as goal
 
 pub overflow_sub-loss : goal.overflow_sub-loss

@@ -1,8 +1,7 @@
 -- `columns::find_losses` meets its contract: a loop that fills a list with a function of the place.
 use Prim.Native.Nat.{ℕ, ◌-◌}
-use native.Mathlib.Omega.{arith}
-use lib.ListN.{length, get_or}
-use Rattle.sequences.specs.Filling.{Filled, filled_none, filled_more, filled_all}
+use lib.ListN.{get_or}
+use Rattle.sequences.specs.Filling.{Filled}
 use Rattle.columns.proofs.find_losses.Given as goal
 
 abbrev pub invariant-loop-k : goal.invariant-loop-k
