@@ -45,23 +45,14 @@ pub fn ratio_at(ratios: Ratios, k: usize) -> u64
     requires { ratios.count ≤ 9 }
     ensures { result ≡ get_or (ratios_is ratios) k 100 }
 {
-    if k < ratios.count {
-        return ratios.values[k];
-    }
-    100
+    ratios.values[..ratios.count].get(k).copied().unwrap_or(100)
 }
 
 // The time control with another ratio in force.
 pub fn under(time: Time, ratio: u64) -> Time
     ensures { result ≡ time_under ratio time }
 {
-    let ratios = time.ratios;
-    Time {
-        minutes: time.minutes,
-        ordinates: time.ordinates,
-        ratio,
-        ratios,
-    }
+    Time { ratio, ..time }
 }
 
 // A block's name: its bytes, of which the first `letters` count.
@@ -75,22 +66,7 @@ pub struct Name {
 fn count_by(head: u64) -> usize
     ensures { result ≡ count_by head }
 {
-    if head == 0 {
-        return 0;
-    }
-    (head - 1) as usize
-}
-
-// Values behind those that a region holds already.
-fn append(region: &mut [u64], at: usize, values: &[u64], n: usize)
-    requires { (n ≤ length values.now) × (at + n ≤ length region.old) }
-    ensures { region.new ≡ paste region.old at values.now n }
-{
-    let mut i: usize = 0;
-    while i < n {
-        region[at + i] = values[i];
-        i += 1;
-    }
+    head.saturating_sub(1) as usize
 }
 
 // A line's values taken into a record's region, which may hold `most` of them; else the region stays, and the line is refused by 8.
@@ -104,7 +80,7 @@ fn take_in(region: &mut [u64], values: &[u64], n: usize, most: usize) -> Result<
     if most < count + n {
         return Err(Refusal::TooManyValues);
     }
-    append(region, count + 1, values, n);
+    region[count + 1..count + 1 + n].copy_from_slice(&values[..n]);
     region[0] = (count + n + 1) as u64;
     Ok(())
 }
@@ -145,10 +121,7 @@ pub fn is_repeated(cards: &[u64], item: usize) -> bool
     requires { (item < items) × Readable cards.now }
     ensures { (name : List ℕ) → result ≡ repeated item (block_of name cards.now) }
 {
-    if records::way_of(item) == 0 {
-        return is_given(cards, item);
-    }
-    false
+    records::way_of(item) == 0 && is_given(cards, item)
 }
 
 // A record's values; none where it is not there.
@@ -167,11 +140,7 @@ pub fn value_at(cards: &[u64], item: usize, k: usize) -> u64
     requires { (item < items) × Readable cards.now }
     ensures { (name : List ℕ) → result ≡ get_or (values_of (card_of item (block_of name cards.now))) k 0 }
 {
-    let vs = values(cards, item);
-    if k < vs.len() {
-        return vs[k];
-    }
-    0
+    values(cards, item).get(k).copied().unwrap_or(0)
 }
 
 // No record is there: a block just opened. The values need not be touched.
@@ -179,10 +148,7 @@ pub fn clear(cards: &mut [u64])
     requires { words_of table ≤ length cards.old }
     ensures { ((name : List ℕ) → block_of name cards.new ≡ opened name) × ((nq : ℕ) → nq ≤ most_ordinates → Counted nq cards.new) }
 {
-    let mut item: usize = 0;
-    while item < records::RECORDS {
-        let at = records::start_of(item);
-        cards[at] = 0;
-        item += 1;
+    for item in 0..records::RECORDS {
+        cards[records::start_of(item)] = 0;
     }
 }

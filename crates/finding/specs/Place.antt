@@ -1,7 +1,7 @@
 -- The block of a number in a deck, line by line: it is what is open where the KK or the ZZ that closes it is read.
 --     block_at    its time control and its values; nowhere, where a line before is refused or none closes it
 --     FoundIs    what the code answers of it
-use Rattle.std.specs.Prelude.{ℕ, zero, suc, ◌≤◌, ◌≡◌, Bool, true, false, List, [], ◌∷◌}
+use Rattle.std.specs.Prelude.{ℕ, zero, suc, ◌≤◌, ◌≡◌, List, [], ◌∷◌, Option, None, Some}
 use Rattle.meaning.specs.Records.{most_ordinates}
 use Rattle.meaning.specs.Blocks.{Time, Block}
 use Rattle.meaning.specs.Run as run
@@ -40,7 +40,6 @@ block_at (l ∷ ls) r left = place_by (read_line r l) r left (λ (next : run.Rea
 
 -- THE CODE'S ANSWER. A block that is there: its values are in the cards, and all that was read is within the limits of the table.
 pub record BlockIs (τ : Time) (b : Block) (x : Found) (cards : List ℕ) : Type 0 where
-  pub there : x.there ≡ true
   pub time : time_is x.time ≡ τ
   pub block : block_of (name_is x.name) cards ≡ b
   pub letters : x.name.letters ≤ 6
@@ -48,14 +47,15 @@ pub record BlockIs (τ : Time) (b : Block) (x : Found) (cards : List ℕ) : Type
   pub few-ratios : x.time.ratios.count ≤ 9
   pub read : Read τ cards
 
-abbrev pub FoundIs : Place → Found → (cards : List ℕ) → Type 0
-FoundIs Nowhere x cards = x.there ≡ false
-FoundIs (At τ b) x cards = BlockIs τ b x cards
+abbrev pub FoundIs : Place → Option Found → (cards : List ℕ) → Type 0
+FoundIs Nowhere x cards = x ≡ None
+FoundIs (At τ b) None cards = ⊥
+FoundIs (At τ b) (Some x) cards = BlockIs τ b x cards
 
-abbrev pub is_open : Phase → Bool
-is_open phase.BeforeTime = false
-is_open phase.BeforeBlocks = false
-is_open phase.InBlock = true
+abbrev pub found_by : Phase → Reading → Option Found
+found_by phase.BeforeTime r = None
+found_by phase.BeforeBlocks r = None
+found_by phase.InBlock r = Some (record { time = r.time; name = r.name })
 
-abbrev pub found_at : Reading → (there : Bool) → Found
-found_at r there = record { there = there; time = r.time; name = r.name }
+abbrev pub found_at : Reading → Option Found
+found_at r = found_by r.phase r

@@ -4,7 +4,7 @@
 --     refused, missing       a line is refused, or none is left: the block is nowhere
 --     kk_here, zz_here       the line that closes it
 --     zz_before, goes_on     a line that closes one before it: the deck's end, or the next block
-use Rattle.std.specs.Prelude.{ℕ, zero, suc, ◌+◌, ◌-◌, ◌≤◌, ◌≡◌, refl, false, List, [], ◌∷◌, length, drop}
+use Rattle.std.specs.Prelude.{ℕ, zero, suc, ◌+◌, ◌-◌, ◌≤◌, ◌≡◌, refl, List, [], ◌∷◌, length, drop, None}
 use Rattle.std.proofs.Common.{zero-le, sym, ap, ◌∙◌, subst, arith}
 use Rattle.meaning.specs.Lines.{lines_of}
 use Rattle.meaning.specs.Fields.{Form, Fixed}
@@ -22,7 +22,12 @@ use Rattle.placing.specs.declared.Phase.{Phase}
 use Rattle.placing.specs.declared.Phase.TheVariants as phase
 use Rattle.placing.specs.declared.Reading.{Reading}
 use Rattle.placing.specs.Readings.{reading_by, reading_is, block_is, opened_in, Ready, Begins, Opens}
-use Rattle.finding.specs.Place.{Place, Nowhere, closed_in, place_by, block_at, FoundIs, is_open, found_at}
+use Rattle.reading.specs.declared.Event as coded
+use Rattle.reading.specs.declared.Event.TheVariants as event
+use Rattle.reading.specs.declared.Got.{Got}
+use Rattle.reading.specs.Found as read
+use Rattle.reading.specs.Found.{Onward, Gets}
+use Rattle.finding.specs.Place.{Place, Nowhere, closed_in, place_by, block_at, FoundIs, found_by, found_at}
 
 -- THE NEXT EVENT
 abbrev place_found : events.Found → (left : ℕ) → Place
@@ -55,12 +60,11 @@ zz_later (suc left) τ r go some = refl
 
 -- A BLOCK THAT CLOSES, by the phase of the reading
 closed_by : (p : Phase) (r : Reading) (cards : List ℕ) → Ready r cards → ReadingWithin (reading_by p (time_is r.time) (form_of r.free) (block_is r cards))
-    → FoundIs (closed_in (reading_by p (time_is r.time) (form_of r.free) (block_is r cards))) (found_at r (is_open p)) cards
+    → FoundIs (closed_in (reading_by p (time_is r.time) (form_of r.free) (block_is r cards))) (found_by p r) cards
 closed_by phase.BeforeTime r cards ready within = refl
 closed_by phase.BeforeBlocks r cards ready within = refl
 closed_by phase.InBlock r cards ready within =
     record {
-      there = refl;
       time = refl;
       block = refl;
       letters = ready.short-name;
@@ -97,33 +101,33 @@ module _ {deck : List ℕ} {sought : Place} {r : Reading} {at line left : ℕ} {
   sought_by : (f : events.Found) → next ≡ f → sought ≡ place_found f left
   sought_by f e = sym g.goes ∙ block-found lines (reading_is r cards) left (line + 1) ∙ ap (λ (f : events.Found). place_found f left) e
 
-  nowhere : (q : Reading) (cards' : List ℕ) → sought ≡ Nowhere → FoundIs sought (found_at q false) cards'
-  nowhere q cards' e = subst (λ (p : Place). FoundIs p (found_at q false) cards') (sym e) refl
+  nowhere : (cards' : List ℕ) → sought ≡ Nowhere → FoundIs sought None cards'
+  nowhere cards' e = subst (λ (p : Place). FoundIs p None cards') (sym e) refl
 
-  pub refused : {number last : ℕ} {p : run.Reading} {rest : List (List ℕ)} (q : Reading) (cards' : List ℕ) → next ≡ Met (Refuse number) p last rest
-      → FoundIs sought (found_at q false) cards'
-  refused q cards' e = nowhere q cards' (sought_by _ e)
+  pub refused : {number last : ℕ} {p : run.Reading} {rest : List (List ℕ)} (cards' : List ℕ) → next ≡ Met (Refuse number) p last rest
+      → FoundIs sought None cards'
+  refused cards' e = nowhere cards' (sought_by _ e)
 
-  pub missing : {p : run.Reading} {last : ℕ} (q : Reading) (cards' : List ℕ) → next ≡ Missing p last → FoundIs sought (found_at q false) cards'
-  missing q cards' e = nowhere q cards' (sought_by _ e)
+  pub missing : {p : run.Reading} {last : ℕ} (cards' : List ℕ) → next ≡ Missing p last → FoundIs sought None cards'
+  missing cards' e = nowhere cards' (sought_by _ e)
 
   -- KK or ZZ: where the reading stood before its line
   module _ {q : Reading} {cards' : List ℕ} {last : ℕ} {rest : List (List ℕ)} (ready : Ready q cards') where
     limits : (e : Event) → next ≡ Met e (reading_is q cards') last rest → EventWithin e × ReadingWithin (reading_is q cards')
     limits e found = subst FoundWithin found (found_within lines (reading_is r cards) (line + 1) g.within)
 
-    here : (e : Event) → next ≡ Met e (reading_is q cards') last rest → sought ≡ closed_in (reading_is q cards') → FoundIs sought (found_at q (is_open q.phase)) cards'
+    here : (e : Event) → next ≡ Met e (reading_is q cards') last rest → sought ≡ closed_in (reading_is q cards') → FoundIs sought (found_at q) cards'
     here e found closed =
-        subst (λ (p : Place). FoundIs p (found_at q (is_open q.phase)) cards') (sym closed) (closed_by q.phase q cards' ready (limits e found).1)
+        subst (λ (p : Place). FoundIs p (found_at q) cards') (sym closed) (closed_by q.phase q cards' ready (limits e found).1)
 
-    pub kk_here : {opens : run.Reading} → next ≡ Met (Open opens) (reading_is q cards') last rest → left ≡ 0 → FoundIs sought (found_at q (is_open q.phase)) cards'
+    pub kk_here : {opens : run.Reading} → next ≡ Met (Open opens) (reading_is q cards') last rest → left ≡ 0 → FoundIs sought (found_at q) cards'
     kk_here {opens} found none = here (Open opens) found (sought_by _ found ∙ rw none)
 
-    pub zz_here : {τ : Time} → next ≡ Met (End τ) (reading_is q cards') last rest → left ≡ 0 → FoundIs sought (found_at q (is_open q.phase)) cards'
+    pub zz_here : {τ : Time} → next ≡ Met (End τ) (reading_is q cards') last rest → left ≡ 0 → FoundIs sought (found_at q) cards'
     zz_here {τ} found none = here (End τ) found (sought_by _ found ∙ rw none)
 
-    pub zz_before : {τ : Time} → next ≡ Met (End τ) (reading_is q cards') last rest → (left ≡ 0 → ⊥) → FoundIs sought (found_at q false) cards'
-    zz_before {τ} found some = nowhere q cards' (sought_by _ found ∙ zz_later left τ (reading_is q cards') _ some)
+    pub zz_before : {τ : Time} → next ≡ Met (End τ) (reading_is q cards') last rest → (left ≡ 0 → ⊥) → FoundIs sought None cards'
+    zz_before {τ} found some = nowhere cards' (sought_by _ found ∙ zz_later left τ (reading_is q cards') _ some)
 
     pub goes_on : (name : Name) (at' : ℕ) {x : Reading} {cards'' : List ℕ} → next ≡ Met (Open (opened_in (reading_is q cards') (name_is name))) (reading_is q cards') last rest
         → rest ≡ lines_of (drop at' deck) → at' ≤ length deck → last ≤ at' → (left ≡ 0 → ⊥) → Opens q name x cards'' → Seeking deck sought x at' last (left - 1) cards''
@@ -137,3 +141,21 @@ module _ {deck : List ℕ} {sought : Place} {r : Reading} {at line left : ℕ} {
           within = rw same (limits _ found).0;
           goes = rw (same, ← behind) (sym (kk_later left _ (reading_is q cards') rest some) ∙ sym (sought_by _ found));
         }
+
+  -- BY THE EVENT that is read: where KK are left, one of them, or none; else the line that closes the block
+  module _ (got : Got) (cards' : List ℕ) (gets : Gets deck at line (reading_is r cards) got cards') where
+    pub not_there : (left ≡ 0 → ⊥) → ((name : Name) → got.event ≡ event.Opened name → ⊥) → FoundIs sought None cards'
+    not_there some other = by got.event gets.found gets.onward other
+      where
+        by : (e : coded.Event) → read.FoundIs e (reading_is got.reading cards') got.line (lines_of (drop got.at deck)) next → read.OnwardBy e (Onward deck at got cards')
+            → ((name : Name) → e ≡ event.Opened name → ⊥) → FoundIs sought None cards'
+        by (event.Refused refusal) f o other = refused cards' f.2
+        by (event.Opened name) f o other = absurd (other name refl)
+        by event.Ended f o other = zz_before o.ready f some
+        by event.Missing f o other = missing cards' f.2
+
+    pub next_kk : (left ≡ 0 → ⊥) → (name : Name) → got.event ≡ event.Opened name → {x : Reading} {cards'' : List ℕ} → Opens got.reading name x cards'' → Seeking deck sought x got.at got.line (left - 1) cards''
+    next_kk some name is opens =
+        let f = rw is at gets.found in
+        let o = rw is at gets.onward in
+        goes_on o.0.ready name got.at f refl o.0.within o.0.counted some opens

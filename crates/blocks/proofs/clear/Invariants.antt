@@ -7,7 +7,4 @@ use Rattle.blocks.specs.Clearing.{Clear}
 use Rattle.blocks.proofs.clear.Given as goal
 
 abbrev pub invariant-loop-item : goal.invariant-loop-item
-invariant-loop-item l = (l.item ≤ items) × (length l.cards ≡ length l.initial.cards) × Clear l.item l.cards
-
-abbrev pub decreases-loop-item : goal.decreases-loop-item
-decreases-loop-item l = items - l.item
+invariant-loop-item l = (length l.cards ≡ length l.initial.cards) × Clear l.item l.cards

@@ -1,17 +1,14 @@
--- A line is blank where its run of blanks is all of it.
-use borrow.Author.Rules.{rules}
-use mathlib.Core.Path.{◌≡◌, ◌∙◌, ap}
-use native.Mathlib.Omega.{arith}
-use Prim.Native.Nat.{ℕ}
-use lib.ListN.{length}
+-- Each byte is a blank.
+use Rattle.std.proofs.Common.{rules, tests, ◌≡◌, ◌∙◌}
+use Rattle.std.specs.List.{list_all}
+use Rattle.std.proofs.lemmas.Iterator.{YieldsList-from_slice}
+use Rattle.std.proofs.lemmas.Iterator.Search.{all_from_yields_List}
+use Rattle.meaning.specs.Lines.{blank}
 use Rattle.meaning.specs.Words.{◌=?◌}
-use Rattle.meaning.specs.Fields.{is_blank}
-use Rattle.sequences.specs.Runs.{run}
-use Rattle.identifiers.specs.Texts.{blank-run}
+use Rattle.identifiers.specs.Texts.{blanks_all}
 use Rattle.identifiers.proofs.all_blank.Goals as goal
 
 pub returns : goal.returns
 returns c =
-    let l = c.args.l.now in
-    let e : c.past_blanks.result ≡ run is_blank l = omega (arith, c.past_blanks.ensures) in
-    ap (λ (n : ℕ). n =? length l) e ∙ blank-run l
+    let all : c.all.result ≡ list_all (λ b. b =? blank) c.args.l.now = all_from_yields_List (λ b. b =? blank) _ _ c.all.result c.all.ensures.ran (YieldsList-from_slice _ c.iter.ensures.rest) (λ x b q k. search (rules, tests)) in
+    all ∙ blanks_all c.args.l.now
