@@ -4,8 +4,8 @@
 
 ghost use Rattle.std.specs.Prelude.{◌≤◌, length};
 
-use moves::Case;
 use forms::Fault;
+use moves::Case;
 use streams::Stop;
 
 fn move_file(file: &[u8], direction: usize, room: &mut [u8]) -> Result<usize, Fault> {

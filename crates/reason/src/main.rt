@@ -10,5 +10,8 @@ fn print_reason(rt: &HostRuntime, text: &[u8], number: usize, form: usize) -> bo
 }
 
 fn main(rt: HostRuntime) {
-    streams::answer_cases(&rt, |case, text| print_reason(&rt, text, case.named, case.ratio));
+    streams::answer_cases(
+        &rt,
+        |case, text| print_reason(&rt, text, case.named, case.ratio),
+    );
 }

@@ -48,7 +48,10 @@ fn lend(rt: &HostRuntime, deck: &[u8], case: Case)
 fn answer_next(rt: &HostRuntime, deck: &mut [u8]) -> Result<bool, Stop> {
     let head = streams::read_head::<24>(rt)?;
     let case = cases::read_case(&head);
-    if cases::WORK < case.work || cases::ORDINATES < case.ordinates || cases::RECORDS < case.records {
+    if cases::WORK < case.work
+        || cases::ORDINATES < case.ordinates
+        || cases::RECORDS < case.records
+    {
         return Ok(false);
     }
     let kept = streams::read_deck(rt, deck, case.size)?;

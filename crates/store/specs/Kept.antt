@@ -1,7 +1,7 @@
 -- What is asked of a result file; and that what comes back lies within what was lent for it.
 --     moved_as         the file in the form that is asked for
 --     accepted_fits   the records of an accepted deck lie within their room; moved_fits: and so does a file that was moved
-use Rattle.std.specs.Prelude.{◌≡◌, Bool, true, false, ◌||◌, List, ◌++◌, ℕ, ◌-◌, ◌≤◌, length, replicate}
+use Rattle.std.specs.Prelude.{◌≡◌, Bool, true, false, ◌||◌, List, ◌++◌, ℕ, ◌-◌, ◌≤◌, length, replicate, Result, Ok}
 use Rattle.std.proofs.Common.{sym, ap, ◌∙◌, arith, length-append, ltb-false}
 use Rattle.sequences.specs.Choices.{both_fail}
 use Rattle.meaning.specs.Words.{◌=?◌, ◌<?◌, when◌then◌else◌}
@@ -12,8 +12,7 @@ use Rattle.network.specs.Answers.{passed_all}
 use Rattle.answers.specs.declared.Answer.{Answer}
 use Rattle.answers.specs.declared.Answer.TheVariants as answer
 use Rattle.answers.specs.Answers.{answer_is, outcome_is}
-use Rattle.moving.specs.declared.Move.{Move}
-use Rattle.moving.specs.declared.Move.TheVariants as move
+use Rattle.forms.specs.declared.Fault.{Fault}
 use Rattle.moving.specs.Answers as moving
 use Rattle.moving.specs.Records.{moved_by}
 use Rattle.moving.specs.Ways.{Way, new_way, old_way}
@@ -45,17 +44,17 @@ module _ (deck : List ℕ) (named ratio : ℕ) (lent : Lent) (a : Answer) (work 
 
 -- a move is of as many bytes as stand first in the room
 module _ {size to : ℕ} {form : List ℕ → List ℕ} {faults : List (List ℕ) → ℕ} {way : List ℕ → ℕ → meaning.Outcome} (w : Way size to form faults way) where
-  way_fits : (file : List ℕ) (lent : ℕ) (room : List ℕ) (n : ℕ) → moving.outcome_is (move.Moved n) room ≡ way file lent → n ≤ length room
+  way_fits : (file : List ℕ) (lent : ℕ) (room : List ℕ) (n : ℕ) → moving.outcome_is (Ok n) room ≡ way file lent → n ≤ length room
   way_fits file lent room n e =
       let a = accepted w file lent n (sym (ap (λ (o : meaning.Outcome). o.answer) e)) in
       let behind : List ℕ = replicate (lent - length (moved_by form size file)) 0 in
       let whole : room ≡ moved_by form size file ++ behind = ap (λ (o : meaning.Outcome). o.room) (e ∙ a.comes) in
       omega (arith, a.count, ap length whole, length-append (moved_by form size file) behind)
 
-either_fits : (t : Bool) (file : List ℕ) (lent : ℕ) (room : List ℕ) (n : ℕ) → moving.outcome_is (move.Moved n) room ≡ (when t then to_new file lent else to_old file lent) → n ≤ length room
+either_fits : (t : Bool) (file : List ℕ) (lent : ℕ) (room : List ℕ) (n : ℕ) → moving.outcome_is (Ok n) room ≡ (when t then to_new file lent else to_old file lent) → n ≤ length room
 unfolding when◌then◌else◌
 either_fits true file lent room n e = way_fits new_way file lent room n e
 either_fits false file lent room n e = way_fits old_way file lent room n e
 
-pub moved_fits : (asked : ℕ) (file : List ℕ) (lent : ℕ) (m : Move) (room : List ℕ) {n : ℕ} → moving.outcome_is m room ≡ moved_as asked file lent → m ≡ move.Moved n → n ≤ length room
+pub moved_fits : (asked : ℕ) (file : List ℕ) (lent : ℕ) (m : Result ℕ Fault) (room : List ℕ) {n : ℕ} → moving.outcome_is m room ≡ moved_as asked file lent → m ≡ Ok n → n ≤ length room
 moved_fits asked file lent m room {n} e told = either_fits (asked =? 1) file lent room n (rw told at e)

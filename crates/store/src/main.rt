@@ -8,8 +8,8 @@ ghost use Rattle.moving.specs.Answers.{outcome_is};
 ghost use Rattle.store.specs.Kept.{moved_as};
 
 use answers::Answer;
-use listing::{ORDINATES, RECORDS};
 use forms::Fault;
+use listing::{ORDINATES, RECORDS};
 use results::RECORD;
 use streams::Stop;
 

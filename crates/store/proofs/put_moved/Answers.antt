@@ -10,7 +10,7 @@ pub slice_bounds-print-end : goal.slice_bounds-print-end
 slice_bounds-print-end c =
     let m = c in
     let x = m.args in
-    moved_fits x.asked x.file.now (length x.room.now) m.move_file.result _ m.move_file.ensures c.in-Moved.is
+    moved_fits x.asked x.file.now (length x.room.now) m.move_file.result _ m.move_file.ensures c.in-Ok.is
 
-pub slice_bounds-print-end-in-Moved : goal.slice_bounds-print-end-in-Moved
-slice_bounds-print-end-in-Moved c = sym (length-take-le _ _ (slice_bounds-print-end c))
+pub slice_bounds-print-end-in-Ok : goal.slice_bounds-print-end-in-Ok
+slice_bounds-print-end-in-Ok c = sym (length-take-le _ _ (slice_bounds-print-end c))
