@@ -22,8 +22,7 @@ ghost use Rattle.reasons.specs.Stated.{stated_rules, stated_fields, named_in};
 ghost use Rattle.reasons.specs.ByRecord.{raised};
 
 use identifiers::Record;
-use numbers::Number;
-use rules::{Field, Rule};
+use rules::Rule;
 
 // The bytes that any reason has room in.
 pub const REASON: usize = 199;
@@ -52,8 +51,9 @@ fn write_number_reason(
     ensures { Written out.old at (number_reason places low high (number_of f.now)) out.new result }
 {
     match numbers::read_number(f) {
-        Number::NoNumber => write_rule(out, at, b"NUMBER", places, low, high),
-        Number::Decimal(_, _, left) => {
+        None => write_rule(out, at, b"NUMBER", places, low, high),
+        Some(number) => {
+            let left = number.places;
             if places < left {
                 let end = write_rule(out, at, b"PLACES", places, low, high);
                 return text::write_number(out, end, left);
@@ -95,10 +95,8 @@ fn raise(rule: Rule) -> Rule
     ensures { rule_by result ≡ raised (rule_by rule) }
 {
     match rule {
-        Rule::Unnamed => Rule::Unnamed,
-        Rule::NotRead => Rule::NotRead,
         Rule::Limited(places, _, high) => Rule::Limited(places, 1, high),
-        Rule::Worded(refusal, most, low, high) => Rule::Worded(refusal, most, low, high),
+        other => other,
     }
 }
 
@@ -119,13 +117,8 @@ fn is_refused(six: bool, rule: Rule, f: &[u8]) -> bool
     ensures { result ≡ refused_by six (rule_by rule) f.now }
 {
     match rules::read_field(rule, f) {
-        Field::Faulty => six,
-        Field::Value(_, outside) => {
-            if six {
-                return false;
-            }
-            outside
-        }
+        None => six,
+        Some(held) => !six && held.outside,
     }
 }
 
@@ -137,6 +130,7 @@ fn count_fields(free: bool, l: &[u8]) -> usize
     let mut c = fields::first_place(free, l);
     let mut i: usize = 0;
     let mut count: usize = 0;
+    // A while: the field's number and its place go on together, and the place says when the line ends.
     while c < l.len() {
         let span = fields::span_at(free, l, i, c);
         i += 1;
@@ -164,12 +158,7 @@ fn fields_to_see(free: bool, item: usize, l: &[u8]) -> usize
     requires { (item ≤ suc items) × (length l.now ≤ 80) }
     ensures { (result ≡ length (stated_fields item (fields_of (form_of free) l.now))) × (result ≤ 80) }
 {
-    let count = count_fields(free, l);
-    let named = named_fields(item);
-    if count < named {
-        return named;
-    }
-    count
+    count_fields(free, l).max(named_fields(item))
 }
 
 // The first field of a record's line that is refused; nothing where none is.
@@ -180,6 +169,7 @@ fn write_fields(out: &mut [u8], six: bool, free: bool, item: usize, l: &[u8]) ->
     let all = fields_to_see(free, item, l);
     let mut c = fields::first_place(free, l);
     let mut i: usize = 0;
+    // A while: the field's number and its place go on together.
     while i < all {
         let span = scanning::next_span(free, l, i, c);
         let from = span.from;

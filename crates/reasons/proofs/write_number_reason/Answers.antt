@@ -9,20 +9,20 @@ use Rattle.reasons.proofs.write_number_reason.Goals as goal
 
 pub write_number-requires : goal.write_number-requires
 write_number-requires c =
-    omega (arith, c.write_rule-end.ensures.place, rule_short "PLACES" c.args.places c.args.low c.args.high, c.requires, whole_within c.in-Decimal.left)
+    omega (arith, c.write_rule-end.ensures.place, rule_short "PLACES" c.args.places c.args.low c.args.high, c.requires, whole_within c.in-Some.number.places)
 
 pub returns-then-places-left : goal.returns-then-places-left
 returns-then-places-left c =
     let x = c.args in
-    let n = c.in-Decimal in
-    rw (sym c.read_number.ensures ∙ ap number_is n.is, many-places x.places x.low x.high n.field-0 n.field-1 n.left c.if-places-left.true)
+    let n = c.in-Some in
+    rw (sym c.read_number.ensures ∙ ap number_is n.is, many-places x.places x.low x.high n.number.minus n.number.digits n.number.places c.if-places-left.true)
     (written_more (omega (arith, c.write_rule-end.ensures.place, rule_short "PLACES" x.places x.low x.high, c.requires)) c.write_rule-end.ensures c.write_number.ensures)
 
-pub returns-in-NoNumber : goal.returns-in-NoNumber
-returns-in-NoNumber c = rw (sym c.read_number.ensures ∙ ap number_is c.in-NoNumber.is) c.write_rule.ensures
+pub returns-in-None : goal.returns-in-None
+returns-in-None c = rw (sym c.read_number.ensures ∙ ap number_is c.in-None.is) c.write_rule.ensures
 
 pub returns-else-places-left : goal.returns-else-places-left
 returns-else-places-left c =
     let x = c.args in
-    let n = c.in-Decimal in
-    rw (sym c.read_number.ensures ∙ ap number_is n.is, few_places x.places x.low x.high n.field-0 n.field-1 n.left c.if-places-left.false) c.write_rule-in-Decimal.ensures
+    let n = c.in-Some in
+    rw (sym c.read_number.ensures ∙ ap number_is n.is, few_places x.places x.low x.high n.number.minus n.number.digits n.number.places c.if-places-left.false) c.write_rule-in-Some.ensures
