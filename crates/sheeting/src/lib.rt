@@ -4,12 +4,14 @@
 
 ghost use Rattle.std.specs.Prelude.{◌≡◌, ◌++◌, ◌-◌, ◌≤◌, length};
 ghost use Rattle.meaning.specs.Lines.{lines_of};
+ghost use Rattle.meaning.specs.Blocks.{kind_number};
 ghost use Rattle.meaning.specs.Fields.{Fixed};
 ghost use Rattle.meaning.specs.Records.{most_ordinates};
 ghost use Rattle.meaning.specs.Run.{BeforeTime};
 ghost use Rattle.meaning.specs.Sheet.{Units, Customary, table_of, sheet_text, sheet};
 ghost use Rattle.blocks.specs.Meant.{time_is, name_is};
 ghost use Rattle.blocks.specs.Cards.{block_of};
+ghost use Rattle.kinds.specs.Kinds.{kind_meant};
 ghost use Rattle.shaping.specs.Limits.{Read};
 ghost use Rattle.text.specs.Written.{Written};
 ghost use Rattle.text.specs.Counted.{Counted};
@@ -22,6 +24,7 @@ ghost use Rattle.sheeting.specs.Texts.{block_text, sheet_at};
 use answers::Answer;
 use blocks::{Name, Time};
 use cells::Measure;
+use kinds::Kind;
 use listing::{ORDINATES, RECORDS};
 
 // The bytes that any sheet has room in: two tables with their titles.
@@ -126,13 +129,23 @@ fn write_runoff(out: &mut [u8], time: Time, name: Name, cards: &[u64]) -> usize
     )
 }
 
+// The number of a block's kind, 0 where it has none.
+fn number_of_kind(kind: Option<Kind>) -> u8
+    ensures { result ≡ kind_number (kind_meant kind) }
+{
+    match kind {
+        Some(kind) => shaping::number_of(kind),
+        None => 0,
+    }
+}
+
 // The sheet of the block that the cards hold: only a runoff block has one.
 fn write_sheet(out: &mut [u8], time: Time, name: Name, cards: &[u64]) -> usize
     requires read { Read (time_is time) cards.now }
     requires letters_bound { (name.letters ≤ 6) × (sheet_size ≤ length out.old) }
     ensures { Written out.old 0 (sheet_text (time_is time) (block_of (name_is name) cards.now)) out.new result }
 {
-    let kind = shaping::number_of(kinds::kind_of(cards));
+    let kind = number_of_kind(kinds::kind_of(cards));
     if kind == 1 {
         return write_runoff(out, time, name, cards);
     }

@@ -1,0 +1,27 @@
+-- The kind that is found is the block's, and kind 1 is runoff.
+use Prim.Native.Nat.{ℕ}
+use mathlib.Core.Path.{◌≡◌, sym, ap, subst, ◌∙◌}
+use mathlib.Core.List.{List}
+use native.Mathlib.Omega.{arith}
+use Rattle.meaning.specs.Blocks.{kind_number}
+use Rattle.blocks.specs.Meant.{time_is, name_is}
+use Rattle.blocks.specs.Cards.{block_of}
+use Rattle.text.specs.Written.{Written}
+use Rattle.sheeting.specs.Texts.{runoff_sheet, no_sheet}
+use Rattle.sheeting.proofs.write_sheet.Goals as goal
+
+pub returns-then-kind-eq1 : goal.returns-then-kind-eq1
+returns-then-kind-eq1 c =
+    let x = c.args in
+    let told = c.number_of_kind-kind.ensures ∙ ap kind_number (c.kind_of.ensures (name_is x.name)) in
+    let one = runoff_sheet (time_is x.time) (block_of (name_is x.name) x.cards.now) _ told (omega (arith, c.if-kind-eq1.true)) in
+    subst (λ (text : List ℕ). Written x.out.now 0 text c.write_runoff.new.out c.write_runoff.result) (sym one)
+    c.write_runoff.ensures
+
+pub returns : goal.returns
+returns c =
+    let x = c.args in
+    let told = c.number_of_kind-kind.ensures ∙ ap kind_number (c.kind_of.ensures (name_is x.name)) in
+    let none = no_sheet (time_is x.time) (block_of (name_is x.name) x.cards.now) _ told (λ e. absurd (omega (arith, c.if-kind-eq1.false, e))) in
+    subst (λ (text : List ℕ). Written x.out.now 0 text c.write_no_sheet.new.out c.write_no_sheet.result) (sym none)
+    c.write_no_sheet.ensures
