@@ -30,7 +30,7 @@ pub fn close_block(
     let summary = within.ok_or(Refusal::FlowAboveLimit)?;
     Ok(Closed {
         held: next,
-        kind: shaping::number_of(shape.kind),
+        kind: shaping::number_of(Some(shape.kind)),
         area: telling::last_area(next),
         summary,
     })

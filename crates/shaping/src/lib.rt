@@ -25,10 +25,14 @@ pub struct Shape {
     pub after: usize,
 }
 
-pub fn number_of(kind: Kind) -> u8
-    ensures { result ≡ kind_number (kind_meant (Some kind)) }
+// The number of a kind, 0 where there is none.
+pub fn number_of(kind: Option<Kind>) -> u8
+    ensures { result ≡ kind_number (kind_meant kind) }
 {
-    kind as u8
+    match kind {
+        Some(kind) => kind as u8,
+        None => 0,
+    }
 }
 
 // How many of those held last a block of the kind takes.
