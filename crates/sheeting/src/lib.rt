@@ -4,14 +4,12 @@
 
 ghost use Rattle.std.specs.Prelude.{◌≡◌, ◌++◌, ◌-◌, ◌≤◌, length};
 ghost use Rattle.meaning.specs.Lines.{lines_of};
-ghost use Rattle.meaning.specs.Blocks.{kind_number};
 ghost use Rattle.meaning.specs.Fields.{Fixed};
 ghost use Rattle.meaning.specs.Records.{most_ordinates};
 ghost use Rattle.meaning.specs.Run.{BeforeTime};
 ghost use Rattle.meaning.specs.Sheet.{Units, Customary, table_of, sheet_text, sheet};
 ghost use Rattle.blocks.specs.Meant.{time_is, name_is};
 ghost use Rattle.blocks.specs.Cards.{block_of};
-ghost use Rattle.kinds.specs.Kinds.{kind_meant};
 ghost use Rattle.shaping.specs.Limits.{Read};
 ghost use Rattle.text.specs.Written.{Written};
 ghost use Rattle.text.specs.Counted.{Counted};
@@ -24,7 +22,6 @@ ghost use Rattle.sheeting.specs.Texts.{block_text, sheet_at};
 use answers::Answer;
 use blocks::{Name, Time};
 use cells::Measure;
-use kinds::Kind;
 use listing::{ORDINATES, RECORDS};
 use sheets::Columns;
 
