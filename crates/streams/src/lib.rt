@@ -45,6 +45,7 @@ fn read_some(rt: &HostRuntime, s: &mut [u8]) -> Got
 pub fn read_all(rt: &HostRuntime, s: &mut [u8]) -> Got
     ensures { IsPrefixLen result.count s.new }
 {
+    // A while: the step is what came.
     let mut n = 0;
     while n < s.len() {
         let more = read_some(rt, &mut s[n..]);
@@ -105,6 +106,7 @@ fn pass_some(rt: &HostRuntime, most: usize) -> Got
 
 // Reads past so many bytes, as far as the input has them.
 fn pass(rt: &HostRuntime, size: usize) -> Got {
+    // A while: the step is what came.
     let mut left = size;
     while 0 < left {
         let got = pass_some(rt, left);
@@ -200,7 +202,7 @@ fn next_block(rt: &HostRuntime, deck: &mut [u8]) -> Result<(Case, usize), Stop>
     Ok((case, kept))
 }
 
-// Answers cases of one block, each with its deck.
+// Answers cases of one block, each with its deck. Its own loop: that a closure around `answer` can be called again and again was not found proved.
 pub fn answer_cases<F: FnMut(Case, &[u8]) -> bool>(rt: &HostRuntime, mut answer: F)
     requires { F.IsAlwaysCallable answer }
 {
