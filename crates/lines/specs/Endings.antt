@@ -1,4 +1,4 @@
--- The ways through the definition of a line, one law for each; by_text goes by the text that the rest of the deck begins with.
+-- The ways through the definition of a line, one law for each; rest_lf and rest_cr-lf: by the text that the rest of the deck begins with.
 use Rattle.std.specs.Prelude.{ℕ, suc, ◌+◌, ◌-◌, ◌≤◌, ◌<◌, ◌≡◌, ◌&&◌, List, [], ◌∷◌, eqb, length, take, drop, get_or}
 use Rattle.std.specs.List.{starts_with}
 use Rattle.std.proofs.Math.Path.{refl}
