@@ -117,14 +117,12 @@ fn key_at(item: usize) -> u64
 pub fn place_of(key: u64) -> usize
     ensures { (result ≡ place_of key) × (result ≤ items) }
 {
-    let mut i: usize = 0;
-    while i < RECORDS {
+    for i in 0..RECORDS {
         if key == key_at(i) {
             return i;
         }
-        i += 1;
     }
-    i
+    RECORDS
 }
 
 // The rule of field `k` of a record, from 0, or of the values that it lists. A match and no table, since it is asked for every field.
