@@ -3,8 +3,8 @@
 --     line_short    it takes at most line_size bytes; lines_short: and each of all lines
 --     lines_more    one line more behind those before it
 --     minutes_at     the minutes of an interval where a block is found; minutes_there, no_minutes: as the code tells them
-use Rattle.std.specs.Prelude.{ℕ, zero, suc, ◌+◌, ◌*◌, ◌≤◌, ◌<◌, ◌≡◌, refl, true, false, List, [], ◌∷◌, ◌++◌, length, take, get_or}
-use Rattle.std.proofs.Common.{sym, ap, ◌∙◌, true≢false, append-nil, append_assoc, add-zero, mul-suc, add-one, arith, length-append}
+use Rattle.std.specs.Prelude.{ℕ, zero, suc, ◌+◌, ◌*◌, ◌≤◌, ◌<◌, ◌≡◌, refl, List, [], ◌∷◌, ◌++◌, length, take, get_or, None, Some}
+use Rattle.std.proofs.Common.{sym, ap, ◌∙◌, append-nil, append_assoc, add-zero, mul-suc, add-one, arith, length-append}
 use Rattle.meaning.specs.Words.{bytes}
 use Rattle.meaning.specs.Lines.{lf}
 use Rattle.meaning.specs.Blocks.{Time}
@@ -73,13 +73,12 @@ abbrev pub minutes_at : Place → ℕ
 minutes_at Nowhere = 0
 minutes_at (At τ b) = τ.minutes
 
-module _ (x : Found) (cards : List ℕ) where
-  pub minutes_there : (p : Place) → FoundIs p x cards → x.there ≡ true → (x.time.minutes ≡ minutes_at p) × (x.time.minutes ≤ most_minutes)
-  minutes_there Nowhere f there = absurd (true≢false (sym there ∙ f))
-  minutes_there (At τ b) f there =
-      let own : x.time.minutes ≡ τ.minutes = ap (λ (σ : Time). σ.minutes) f.time in
-      (own, omega (arith, own, f.read.time.few-minutes))
+pub minutes_there : (x : Found) (cards : List ℕ) (p : Place) → FoundIs p (Some x) cards → (x.time.minutes ≡ minutes_at p) × (x.time.minutes ≤ most_minutes)
+minutes_there x cards Nowhere f = cc
+minutes_there x cards (At τ b) f =
+    let own : x.time.minutes ≡ τ.minutes = ap (λ (σ : Time). σ.minutes) f.time in
+    (own, omega (arith, own, f.read.time.few-minutes))
 
-  pub no_minutes : (p : Place) → FoundIs p x cards → x.there ≡ false → 0 ≡ minutes_at p
-  no_minutes Nowhere f none = refl
-  no_minutes (At τ b) f none = absurd (true≢false (sym f.there ∙ none))
+pub no_minutes : (cards : List ℕ) (p : Place) → FoundIs p None cards → 0 ≡ minutes_at p
+no_minutes cards Nowhere f = refl
+no_minutes cards (At τ b) f = absurd f

@@ -51,11 +51,10 @@ fn minutes_of(deck: &[u8]) -> u64
     ensures { (result ≡ minutes_at (block_at (lines_of deck.now) (BeforeTime Fixed) 1)) × (result ≤ most_minutes) }
 {
     let mut cards = [0u64; records::WORDS];
-    let found = finding::find_block(deck, 1, &mut cards);
-    if found.there {
-        return found.time.minutes;
+    match finding::find_block(deck, 1, &mut cards) {
+        Some(found) => found.time.minutes,
+        None => 0,
     }
-    0
 }
 
 // The hydrograph of a deck's block under a ratio, both by their numbers, or the line of its refusal. With 6,000 words, 300 ordinates and the records of 200 blocks

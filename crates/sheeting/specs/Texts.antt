@@ -3,8 +3,8 @@
 --     sheet_at      the sheet of a block where it is found, under the ratio at a place
 --     runoff_sheet, no_sheet              by the kind of the block
 --     Shown, shown_there, nothing_there   by whether it is there
-use Rattle.std.specs.Prelude.{ℕ, ◌≤◌, ◌≡◌, refl, true, false, List, [], ◌++◌, get_or}
-use Rattle.std.proofs.Common.{sym, ap, ◌∙◌, true≢false, eq-eqb, ne_eqb}
+use Rattle.std.specs.Prelude.{ℕ, ◌≤◌, ◌≡◌, refl, List, [], ◌++◌, get_or, None, Some}
+use Rattle.std.proofs.Common.{sym, ap, ◌∙◌, eq-eqb, ne_eqb}
 use Rattle.meaning.specs.Words.{when◌then◌else◌}
 use Rattle.meaning.specs.Blocks.{Time, Block, ratio_at, under, kind_number, kind_of}
 use Rattle.meaning.specs.Sheet.{Sheet, Units, Customary, title_line, table_text, table_of, no_sheet_line, sheet_text}
@@ -40,13 +40,13 @@ pub record Shown (p : Place) (x : Found) (cards : List ℕ) (place ratio : ℕ) 
   pub text : sheet_text (time_is (time_under ratio x.time)) (block_of (name_is x.name) cards) ≡ sheet_at place p
 
 module _ (x : Found) (cards : List ℕ) where
-  pub few_listed : (p : Place) → FoundIs p x cards → x.there ≡ true → x.time.ratios.count ≤ 9
-  few_listed Nowhere f there = absurd (true≢false (sym there ∙ f))
-  few_listed (At τ b) f there = f.few-ratios
+  pub few_listed : (p : Place) → FoundIs p (Some x) cards → x.time.ratios.count ≤ 9
+  few_listed Nowhere f = cc
+  few_listed (At τ b) f = f.few-ratios
 
-  pub shown_there : (p : Place) → FoundIs p x cards → x.there ≡ true → (place ratio : ℕ) → ratio ≡ get_or (ratios_is x.time.ratios) place 100 → Shown p x cards place ratio
-  shown_there Nowhere f there place ratio is = absurd (true≢false (sym there ∙ f))
-  shown_there (At τ b) f there place ratio is =
+  pub shown_there : (p : Place) → FoundIs p (Some x) cards → (place ratio : ℕ) → ratio ≡ get_or (ratios_is x.time.ratios) place 100 → Shown p x cards place ratio
+  shown_there Nowhere f place ratio is = cc
+  shown_there (At τ b) f place ratio is =
       let time : time_is (time_under ratio x.time) ≡ under (ratio_at place τ) τ =
       rw is (ap (λ (σ : Time). under (ratio_at place σ) σ) f.time) in
       record {
@@ -56,6 +56,6 @@ module _ (x : Found) (cards : List ℕ) where
             ap (λ (σ : Time). sheet_text σ (block_of (name_is x.name) cards)) time ∙ ap (λ (c : Block). sheet_text (under (ratio_at place τ) τ) c) f.block;
       }
 
-  pub nothing_there : (p : Place) → FoundIs p x cards → x.there ≡ false → (place : ℕ) → sheet_at place p ≡ []
-  nothing_there Nowhere f none place = refl
-  nothing_there (At τ b) f none place = absurd (true≢false (sym f.there ∙ none))
+pub nothing_there : (cards : List ℕ) (p : Place) → FoundIs p None cards → (place : ℕ) → sheet_at place p ≡ []
+nothing_there cards Nowhere f place = refl
+nothing_there cards (At τ b) f place = absurd f

@@ -112,15 +112,11 @@ fn sheet_block(deck: &[u8], number: usize, ratio: usize, out: &mut [u8]) -> usiz
     ensures { Written out.old 0 (sheet_at (ratio - 1) (block_at (lines_of deck.now) (BeforeTime Fixed) number)) out.new result }
 {
     let mut cards = [0u64; records::WORDS];
-    let found = finding::find_block(deck, number, &mut cards);
-    let time = found.time;
-    let name = found.name;
-    if found.there {
-        let ratios = time.ratios;
-        let rate = blocks::ratio_at(ratios, ratio.saturating_sub(1));
-        return write_sheet(out, blocks::under(time, rate), name, &cards);
-    }
-    0
+    let Some(found) = finding::find_block(deck, number, &mut cards) else {
+        return 0;
+    };
+    let rate = blocks::ratio_at(found.time.ratios, ratio.saturating_sub(1));
+    write_sheet(out, blocks::under(found.time, rate), found.name, &cards)
 }
 
 // The number of what is named; 0 names the last of so many.
