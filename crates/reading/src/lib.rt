@@ -48,6 +48,7 @@ fn read_fields(values: &mut [u64], free: bool, item: usize, l: &[u8]) -> Result<
         count: 0,
         outside: false,
     };
+    // A while: where the next field is looked for, the field itself tells, and past the line's end only the named ones count.
     while scanning::is_left(l.len(), c, i, named) {
         let span = scanning::next_span(free, l, i, c);
         scan = scanning::note_field(values, scan, item, i, &l[span.from..span.to])?;
@@ -113,6 +114,7 @@ pub fn read_on(s: &[u8], from: usize, before: u64, start: Reading, cards: &mut [
     let mut at = from;
     let mut line = before;
     let mut reading = start;
+    // A while: where the next line begins, the line itself tells.
     while at < s.len() {
         line += 1;
         match read_next(s, &mut at, &mut reading, cards) {
