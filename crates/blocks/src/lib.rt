@@ -10,6 +10,9 @@ ghost use Rattle.meaning.specs.Blocks.{is_given, values_of, card_of, repeated, o
 ghost use Rattle.blocks.specs.Meant.{ratios_is, time_under};
 ghost use Rattle.blocks.specs.Cards.{head_in, count_by, block_of, Counted, Readable, Takes};
 ghost use Rattle.records.specs.Rows.{items, span_in, words_of};
+ghost use Rattle.refusals.specs.Numbers.{refusal_in};
+
+use refusals::Refusal;
 
 // The ratios that JR lists, in hundredths, of which the first `count` count; none where there is no JR.
 #[derive(Clone, Copy)]
@@ -90,28 +93,34 @@ fn append(region: &mut [u64], at: usize, values: &[u64], n: usize)
     }
 }
 
-// A line's values taken into a record's region, which may hold `most` of them; else the region stays, and the answer is 8.
-fn take_in(region: &mut [u64], values: &[u64], n: usize, most: usize) -> u64
+// A line's values taken into a record's region, which may hold `most` of them; else the region stays, and the line is refused by 8.
+fn take_in(region: &mut [u64], values: &[u64], n: usize, most: usize) -> Result<(), Refusal>
     requires n_bound { (n ≤ 10) × (n ≤ length values.now) }
     requires region_bound { (head_in region.old ≤ suc most) × (suc most ≤ length region.old) }
-    ensures value { result ≡ met (most <? (count_by (head_in region.old) + n)) 8 }
+    ensures value { refusal_in result ≡ met (most <? (count_by (head_in region.old) + n)) 8 }
     ensures region_after { region.new ≡ (when most <? (count_by (head_in region.old) + n) then region.old else set (paste region.old (suc (count_by (head_in region.old))) values.now n) 0 (suc (count_by (head_in region.old) + n))) }
 {
     let count = count_by(region[0]);
     if most < count + n {
-        return 8;
+        return Err(Refusal::TooManyValues);
     }
     append(region, count + 1, values, n);
     region[0] = (count + n + 1) as u64;
-    0
+    Ok(())
 }
 
 // A line's values taken into the open block, or refused by 8. A record that stands once is not there yet.
-pub fn take_values(cards: &mut [u64], item: usize, values: &[u64], count: usize, nq: usize) -> u64
+pub fn take_values(
+    cards: &mut [u64],
+    item: usize,
+    values: &[u64],
+    count: usize,
+    nq: usize,
+) -> Result<(), Refusal>
     requires item_lt { (item < items) × (count ≤ 10) × (10 ≤ length values.now) }
     requires by_index { (name : List ℕ) → repeated item (block_of name cards.old) ≡ false }
     requires counted { Counted nq cards.old }
-    ensures { Takes item nq (take (span_in (row_of item) count) values.now) cards.old result cards.new }
+    ensures { Takes item nq (take (span_in (row_of item) count) values.now) cards.old (refusal_in result) cards.new }
 {
     let from = records::start_of(item);
     let to = records::start_of(item + 1);

@@ -1,17 +1,54 @@
--- The ways through the definition of a line, one law for each.
-use Rattle.std.specs.Prelude.{ℕ, ◌+◌, ◌-◌, ◌≤◌, ◌<◌, ◌≡◌, false, ◌&&◌, List, length, get_or}
+-- The ways through the definition of a line, one law for each; by_text goes by the text that the rest of the deck begins with.
+use Rattle.std.specs.Prelude.{ℕ, suc, ◌+◌, ◌-◌, ◌≤◌, ◌<◌, ◌≡◌, ◌&&◌, List, [], ◌∷◌, eqb, length, take, drop, get_or}
+use Rattle.std.specs.List.{starts_with}
 use Rattle.std.proofs.Math.Path.{refl}
-use Rattle.std.proofs.Math.Bool.{and-false}
-use Rattle.std.proofs.Common.{eq-eqb, ne_eqb, lt-ltb, le-ltb, le-leb}
-use Rattle.std.proofs.lemmas.Bool.{lt-leb}
+use Rattle.std.proofs.Math.Bool.{Bool, true, false, and-false}
+use Rattle.std.proofs.Math.Seq.{take-length}
+use Rattle.std.proofs.Common.{◌∙◌, ap, sym, add-zero, eq-eqb, ne_eqb, lt-ltb, le-ltb, le-leb, length-drop, get_or-drop}
+use Rattle.std.proofs.lemmas.Bool.{lt-leb, eqb-true, eqb-false}
 use Rattle.std.proofs.Math.ListN.{get_or-eq_default}
 use Rattle.meaning.specs.Words.{◌=?◌}
 use Rattle.meaning.specs.Lines.{lf, cr}
 use Rattle.sequences.specs.Choices.{taken, passed}
 use Rattle.lines.specs.Line.{fair_line, unfair_line, line_ending, line_from}
 
+eqb-turned : (a b : ℕ) → eqb a b ≡ (b =? a)
+eqb-turned a b = go (eqb a b) refl
+  where
+    go : (t : Bool) → eqb a b ≡ t → t ≡ (b =? a)
+    go true e = sym (eq-eqb b a (sym (eqb-true a b e)))
+    go false e = sym (ne_eqb b a (λ g. eqb-false a b e (sym g)))
+
+-- what a text begins with, by its first bytes
+begins_lf : (r : List ℕ) → starts_with eqb r (lf ∷ []) ≡ (get_or r 0 0 =? lf)
+begins_lf [] = refl
+begins_lf (b ∷ r) = go (eqb lf b) (eqb-turned lf b)
+  where
+    go : (t : Bool) → t ≡ (b =? lf) → (t && true) ≡ (b =? lf)
+    go true e = e
+    go false e = e
+
+begins_cr-lf : (r : List ℕ) → starts_with eqb r (cr ∷ lf ∷ []) ≡ ((get_or r 0 0 =? cr) && (get_or r 1 0 =? lf))
+begins_cr-lf [] = refl
+begins_cr-lf (b ∷ []) = rw (and-false (eqb cr b), and-false (b =? cr)) refl
+begins_cr-lf (b ∷ d ∷ r) = rw (eqb-turned cr b) (ap (λ (t : Bool). (b =? cr) && t) (begins_lf (d ∷ r)))
+
+-- the rest of a deck, as the code cuts it
+module _ (s : List ℕ) (end : ℕ) where
+  abbrev pub rest : List ℕ
+  rest = take (length s - end) (drop end s)
+
+  pub rest_is : rest ≡ drop end s
+  rest_is = ap (λ (n : ℕ). take n (drop end s)) (sym (length-drop end s)) ∙ take-length (drop end s)
+
+  pub rest_lf : starts_with eqb rest (lf ∷ []) ≡ (get_or s end 0 =? lf)
+  rest_lf = rw rest_is (begins_lf (drop end s) ∙ ap (λ (b : ℕ). b =? lf) (get_or-drop end s 0 0 ∙ ap (λ (n : ℕ). get_or s n 0) (add-zero end)))
+
+  pub rest_cr-lf : starts_with eqb rest (cr ∷ lf ∷ []) ≡ ((get_or s end 0 =? cr) && (get_or s (end + 1) 0 =? lf))
+  rest_cr-lf = rw rest_is (begins_cr-lf (drop end s) ∙ rw (get_or-drop end s 0 0, get_or-drop end s 1 0, add-zero end) refl)
+
 module _ (s : List ℕ) (at end : ℕ) where
-  pub too_long : 80 < end - at → unfair_line end ≡ line_from s at end
+  pub too_long : 80 < end - at → unfair_line ≡ line_from s at end
   unfolding line_from
   too_long h = taken _ (lt-ltb _ _ h) refl
 
@@ -31,16 +68,16 @@ module _ (s : List ℕ) (at end : ℕ) where
         at_cr-lf h k =
             passed _ (le-ltb _ _ short) (passed _ (lt-leb _ _ more) (passed _ (ne_eqb _ _ no-lf) (taken _ (rw (h, k)) refl)))
 
-        at_foreign : ((get_or s end 0 =? cr) && (get_or s (end + 1) 0 =? lf)) ≡ false → unfair_line end ≡ line_from s at end
+        pub at_foreign : ((get_or s end 0 =? cr) && (get_or s (end + 1) 0 =? lf)) ≡ false → unfair_line ≡ line_from s at end
         unfolding line_from line_ending
         at_foreign h =
             passed _ (le-ltb _ _ short) (passed _ (lt-leb _ _ more) (passed _ (ne_eqb _ _ no-lf) (passed _ h refl)))
 
-        pub at_other : (get_or s end 0 ≡ cr → ⊥) → unfair_line end ≡ line_from s at end
+        pub at_other : (get_or s end 0 ≡ cr → ⊥) → unfair_line ≡ line_from s at end
         at_other h = at_foreign (rw (ne_eqb (get_or s end 0) cr h))
 
-        pub at_cr : (get_or s (end + 1) 0 ≡ lf → ⊥) → unfair_line end ≡ line_from s at end
+        pub at_cr : (get_or s (end + 1) 0 ≡ lf → ⊥) → unfair_line ≡ line_from s at end
         at_cr h = at_foreign (rw (ne_eqb (get_or s (end + 1) 0) lf h) (and-false (get_or s end 0 =? cr)))
 
-        pub at_last_cr : length s ≤ end + 1 → unfair_line end ≡ line_from s at end
+        pub at_last_cr : length s ≤ end + 1 → unfair_line ≡ line_from s at end
         at_last_cr h = at_foreign (rw (get_or-eq_default s 0 h) (and-false (get_or s end 0 =? cr)))

@@ -1,8 +1,8 @@
 -- The line at a place is the first of the deck's lines from there on: what the loop over a deck's lines goes by.
 --     fair-line      a fair one passes refusal 3, and the lines go on at `next`
---     unfair-line    any other meets it
+--     unfair-line    any other meets it; unfair_by_three: and by that it is refused
 use Prim.Native.Nat.{ℕ, suc, ◌+◌, ◌-◌, ◌≤◌, ◌<◌}
-use Rattle.std.specs.Prelude.{◌≡◌, Bool, ◌&&◌, List, [], ◌∷◌, ◌++◌, take, drop}
+use Rattle.std.specs.Prelude.{◌≡◌, Bool, ◌&&◌, List, [], ◌∷◌, ◌++◌, take, drop, Result, Ok, Err}
 use Rattle.std.proofs.Math.Path.{refl, ap}
 use Rattle.std.proofs.Common.{◌∙◌, append-nil, ⊎_elim, drop_of_length-le, drop-drop, length-take-le}
 use Rattle.std.proofs.Math.Bool.{true, false, or-true}
@@ -16,6 +16,8 @@ use Rattle.meaning.specs.Lines.{lf, cr, in_front, lines_of, foreign}
 use Rattle.sequences.specs.Choices.{below_or_not, both_hold}
 use Rattle.sequences.specs.Parts.{part}
 use Rattle.sequences.specs.Runs.{run, run_within, run_at_within, run_at_stops, every-run, not_every}
+use Rattle.refusals.specs.declared.Refusal.{Refusal}
+use Rattle.refusals.specs.declared.Refusal.TheVariants.{ForeignLine}
 use Rattle.lines.specs.declared.Line.{Line}
 use Rattle.lines.specs.Line.{is_plain, fair_line, unfair_line, line_ending, line_from, line_at}
 use Rattle.lines.specs.Plain.{plain-every, front, front-line, front_none, lines-run}
@@ -156,29 +158,35 @@ module _ (s : List ℕ) (at : ℕ) (inside : at < length s) where
             rw (lt-ltb 80 (length (plains ++ b.more)) l);
       }
 
-  abbrev Told : Bool → ℕ → ℕ → Type 0
-  Told true end next = FairAt s at end next
-  Told false end next = ForeignAt s at
+  abbrev Told : Result Line Refusal → Type 0
+  Told (Ok line) = FairAt s at line.end line.next
+  Told (Err refusal) = (refusal ≡ ForeignLine) × ForeignAt s at
 
-  told : Told (line_at s at).fair (line_at s at).end (line_at s at).next
+  told : Told (line_at s at)
   unfolding line_from line_ending when◌then◌else◌
   told = go (80 <? (end - at)) refl (length s ≤? end) refl (get_or s end 0 =? lf) refl ((get_or s end 0 =? cr) && (get_or s (end + 1) 0 =? lf)) refl
     where
       go : (a : Bool) → (80 <? (end - at)) ≡ a → (b : Bool) → (length s ≤? end) ≡ b → (c : Bool) → (get_or s end 0 =? lf) ≡ c
           → (d : Bool) → ((get_or s end 0 =? cr) && (get_or s (end + 1) 0 =? lf)) ≡ d
-          → let r : Line = when a then unfair_line end else when b then fair_line end end else when c then fair_line end (end + 1) else when d then fair_line end (end + 2) else unfair_line end in
-          Told r.fair r.end r.next
-      go true p b q c r d t = foreign_long (ltb-true _ _ p)
+          → Told (when a then unfair_line else when b then fair_line end end else when c then fair_line end (end + 1) else when d then fair_line end (end + 2) else unfair_line)
+      go true p b q c r d t = (refl, foreign_long (ltb-true _ _ p))
       go false p true q c r d t = fair_end (ltb-false _ _ p) (leb-true _ _ q)
       go false p false q true r d t = fair_lf (ltb-false _ _ p) (leb-false _ _ q) (eqb-true _ _ r)
       go false p false q false r true t =
           let both = both_hold _ _ t in
           fair_cr-lf (ltb-false _ _ p) (leb-false _ _ q) (eqb-true _ _ both.0) (eqb-true _ _ both.1)
-      go false p false q false r false t = foreign_byte (leb-false _ _ q) r t
+      go false p false q false r false t = (refl, foreign_byte (leb-false _ _ q) r t)
 
-module _ (s : List ℕ) (at : ℕ) (r : Line) (inside : at < length s) (found : r ≡ line_at s at) where
-  pub fair-line : r.fair ≡ true → FairAt s at r.end r.next
-  fair-line h = rw h at (rw (← found) at (told s at inside))
+module _ (s : List ℕ) (at : ℕ) (r : Result Line Refusal) (inside : at < length s) (found : r ≡ line_at s at) where
+  pub fair-line : (line : Line) → r ≡ Ok line → FairAt s at line.end line.next
+  fair-line line h = rw h at (rw (← found) at (told s at inside))
 
-  pub unfair-line : r.fair ≡ false → ForeignAt s at
-  unfair-line h = rw h at (rw (← found) at (told s at inside))
+  -- any other, which is refused
+  refused : (refusal : Refusal) → r ≡ Err refusal → (refusal ≡ ForeignLine) × ForeignAt s at
+  refused refusal h = rw h at (rw (← found) at (told s at inside))
+
+  pub unfair_by_three : (refusal : Refusal) → r ≡ Err refusal → refusal ≡ ForeignLine
+  unfair_by_three refusal h = (refused refusal h).0
+
+  pub unfair-line : (refusal : Refusal) → r ≡ Err refusal → ForeignAt s at
+  unfair-line refusal h = (refused refusal h).1

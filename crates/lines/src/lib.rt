@@ -1,80 +1,57 @@
-// A deck's bytes, line by line. Refusal 3 and the line's end are found in one run over the line: it goes on while bytes are plain, and the byte at
-// which it stops says what the line is.
+// A deck's bytes, line by line. Refusal 3 and the line's end are found in one run over the line: it goes on while bytes are plain, and what stands where
+// it stops says what the line is.
 #![tactic(auto)]
 
-ghost use Rattle.std.specs.Prelude.{◌≡◌, ◌+◌, ◌<◌, length, drop};
+ghost use Rattle.std.specs.Prelude.{◌≡◌, ◌+◌, ◌≤◌, ◌<◌, length, drop};
 ghost use Rattle.sequences.specs.Runs.{run};
 ghost use Rattle.lines.specs.Line.{is_plain, line_at};
 
-// A line's bytes end at `end`, and the next line starts at `next`. Where it is not fair it meets refusal 3, and `end` is where its plain bytes stop.
+use refusals::Refusal;
+
+// A line's bytes end at `end`, and the next line starts at `next`.
 #[derive(Clone, Copy)]
 pub struct Line {
     pub end: usize,
     pub next: usize,
-    pub fair: bool,
+}
+
+// A printing byte, or a blank.
+fn is_plain(b: u8) -> bool
+    ensures { result ≡ is_plain b }
+{
+    matches!(b, b' '..=b'~')
 }
 
 // Where the plain bytes from `at` on stop.
 fn plain_end(s: &[u8], at: usize) -> usize
+    requires { at ≤ length s.now }
     ensures { result ≡ at + run is_plain (drop at s.now) }
 {
-    let mut i = at;
-    while i < s.len() {
-        let b = s[i];
-        if b < 0x20 {
-            return i;
-        }
-        if 0x7E < b {
-            return i;
-        }
-        i += 1;
-    }
-    i
+    let rest = &s[at..];
+    at + rest
+        .iter()
+        .position(|b| !is_plain(*b))
+        .unwrap_or(rest.len())
 }
 
-// The line that starts at `at`.
-pub fn line_at(s: &[u8], at: usize) -> Line
+// The line that starts at `at`, behind whose plain bytes the deck ends, or LF stands, or CR and LF; else it meets refusal 3.
+pub fn line_at(s: &[u8], at: usize) -> Result<Line, Refusal>
     requires { at < length s.now }
     ensures { result ≡ line_at s.now at }
 {
     let end = plain_end(s, at);
     if 80 < end - at {
-        return Line {
-            end: end,
-            next: end,
-            fair: false,
-        };
+        return Err(Refusal::ForeignLine);
     }
-    if s.len() <= end {
-        return Line {
-            end: end,
-            next: end,
-            fair: true,
-        };
+    if end == s.len() {
+        return Ok(Line { end, next: end });
     }
-    let b = s[end];
-    if b == 0x0A {
-        return Line {
-            end: end,
-            next: end + 1,
-            fair: true,
-        };
+    let rest = &s[end..];
+    if rest.starts_with(b"\n") {
+        return Ok(Line { end, next: end + 1 });
     }
-    if b == 0x0D {
-        if end + 1 < s.len() {
-            let d = s[end + 1];
-            if d == 0x0A {
-                return Line {
-                    end: end,
-                    next: end + 2,
-                    fair: true,
-                };
-            }
-        }
+    if rest.starts_with(b"\r\n") {
+        return Ok(Line { end, next: end + 2 });
     }
-    Line {
-        end: end,
-        next: end,
-        fair: false,
-    }
+    Err(Refusal::ForeignLine)
 }

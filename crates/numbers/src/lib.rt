@@ -46,14 +46,7 @@ fn read_digits(s: &[u8], start: u64) -> Digits
 fn places_left(fraction: &[u8]) -> usize
     ensures { result ≡ length (trim_end is_zero fraction.now) }
 {
-    let mut n = fraction.len();
-    while 0 < n {
-        if fraction[n - 1] != 0x30 {
-            return n;
-        }
-        n -= 1;
-    }
-    n
+    slices::trim_end(fraction, b'0').len()
 }
 
 // A number without a fraction has one digit at least and nine at most.

@@ -1,5 +1,5 @@
 -- WHAT STANDS WHERE: what a record does where the reading stands, by the record and then by the phase.
-use Rattle.std.specs.Prelude.{ℕ, zero, suc, ◌≤◌, ◌<◌, ◌≡◌, Bool, not, List, [], ◌∷◌, length, take}
+use Rattle.std.specs.Prelude.{ℕ, zero, suc, ◌≤◌, ◌<◌, ◌≡◌, Bool, not, List, [], ◌∷◌, length, take, Result, Ok, Err}
 use Rattle.std.proofs.Common.{arith, sym, true≢false, lt-ltb}
 use Rattle.std.proofs.Math.Path.{refl}
 use Rattle.std.proofs.Math.Bool.{true, false}
@@ -10,37 +10,40 @@ use Rattle.meaning.specs.Records.{Item, ID, IT, JR, KK, KM, ZZ, Control, Of}
 use Rattle.meaning.specs.Blocks.{Time, repeated}
 use Rattle.meaning.specs.Run as run
 use Rattle.meaning.specs.Run.{BeforeTime, BeforeBlocks, InBlock, Event, Refuse, Go, Open, End, unless, time_refusal, time_of, ratio_refusal, with_ratios, name_refusal, item_refusal, with_item, read_record}
+use Rattle.refusals.specs.declared.Refusal.{Refusal}
+use Rattle.refusals.specs.declared.Refusal.TheVariants.{Misplaced}
+use Rattle.refusals.specs.Numbers.{refusal_number}
 use Rattle.fields.specs.Spans.{form_of}
 use Rattle.records.specs.Rows.{items}
 use Rattle.blocks.specs.Cards.{block_of}
 use Rattle.placing.specs.declared.Phase.{Phase}
 use Rattle.placing.specs.declared.Phase.TheVariants as phase
 use Rattle.placing.specs.declared.Placed.{Placed}
-use Rattle.placing.specs.declared.Placed.TheVariants.{Misplaced, Passed, Named, Last, Fields}
+use Rattle.placing.specs.declared.Placed.TheVariants.{Passed, Named, Last, Fields}
 use Rattle.placing.specs.Readings.{reading_by, form_in, time_in, in_form, opened_in}
 
-abbrev pub before_time : Phase → Placed → Placed
-before_time phase.BeforeTime then = then
-before_time phase.BeforeBlocks then = Misplaced
-before_time phase.InBlock then = Misplaced
+abbrev pub before_time : Phase → Placed → Result Placed Refusal
+before_time phase.BeforeTime then = Ok then
+before_time phase.BeforeBlocks then = Err Misplaced
+before_time phase.InBlock then = Err Misplaced
 
-abbrev pub after_time : Phase → Placed → Placed
-after_time phase.BeforeTime then = Misplaced
-after_time phase.BeforeBlocks then = then
-after_time phase.InBlock then = then
+abbrev pub after_time : Phase → Placed → Result Placed Refusal
+after_time phase.BeforeTime then = Err Misplaced
+after_time phase.BeforeBlocks then = Ok then
+after_time phase.InBlock then = Ok then
 
-abbrev pub once_in : Bool → Item → Placed
-once_in true item = Misplaced
-once_in false item = Fields item
+abbrev pub once_in : Bool → Item → Result Placed Refusal
+once_in true item = Err Misplaced
+once_in false item = Ok (Fields item)
 
-abbrev pub before_blocks : Phase → (listed : Bool) → Placed
-before_blocks phase.BeforeTime again = Misplaced
+abbrev pub before_blocks : Phase → (listed : Bool) → Result Placed Refusal
+before_blocks phase.BeforeTime again = Err Misplaced
 before_blocks phase.BeforeBlocks again = once_in again (suc items)
-before_blocks phase.InBlock again = Misplaced
+before_blocks phase.InBlock again = Err Misplaced
 
-abbrev pub in_block : Phase → (repeated : Bool) → Item → Placed
-in_block phase.BeforeTime again item = Misplaced
-in_block phase.BeforeBlocks again item = Misplaced
+abbrev pub in_block : Phase → (repeated : Bool) → Item → Result Placed Refusal
+in_block phase.BeforeTime again item = Err Misplaced
+in_block phase.BeforeBlocks again item = Err Misplaced
 in_block phase.InBlock again item = once_in again item
 
 -- what a record with fields does
@@ -54,15 +57,15 @@ abbrev pub name_event : run.Reading → List ℕ → Event
 name_event r name = unless (name_refusal name) (Open (opened_in r name))
 
 -- what a line of such a record does
-abbrev pub placed_event : Placed → run.Reading → List ℕ → Event
-placed_event Misplaced r l = Refuse 5
-placed_event (Passed free) r l = Go (in_form (form_of free) r)
-placed_event Named r l = name_event r (name_in (form_in r) l)
-placed_event Last r l = End (time_in r)
-placed_event (Fields item) r l = fields_event item r (fields_of (form_in r) l)
+abbrev pub placed_event : Result Placed Refusal → run.Reading → List ℕ → Event
+placed_event (Err refusal) r l = Refuse (refusal_number refusal)
+placed_event (Ok (Passed free)) r l = Go (in_form (form_of free) r)
+placed_event (Ok Named) r l = name_event r (name_in (form_in r) l)
+placed_event (Ok Last) r l = End (time_in r)
+placed_event (Ok (Fields item)) r l = fields_event item r (fields_of (form_in r) l)
 
 -- and that it is what the record does, on every line that holds it
-abbrev pub PlacedIs : Placed → run.Reading → records.Record → Type 0
+abbrev pub PlacedIs : Result Placed Refusal → run.Reading → records.Record → Type 0
 PlacedIs s r k = (l : List ℕ) → read_record r l k ≡ placed_event s r l
 
 -- where fields are read: the time control's before IT, the ratios' behind it where none are listed yet, a record's in a block that does not repeat it
@@ -92,14 +95,14 @@ due_known phase.BeforeTime τ item w due = omega arith
 due_known phase.BeforeBlocks τ item w due = omega arith
 due_known phase.InBlock τ item w due = omega arith
 
-abbrev pub MayRead : Placed → Phase → Time → List ℕ → Type 0
-MayRead Misplaced p τ w = Unit
-MayRead (Passed free) p τ w = Unit
-MayRead Named p τ w = Unit
-MayRead Last p τ w = Unit
-MayRead (Fields item) p τ w = Due p τ item w
+abbrev pub MayRead : Result Placed Refusal → Phase → Time → List ℕ → Type 0
+MayRead (Err refusal) p τ w = Unit
+MayRead (Ok (Passed free)) p τ w = Unit
+MayRead (Ok Named) p τ w = Unit
+MayRead (Ok Last) p τ w = Unit
+MayRead (Ok (Fields item)) p τ w = Due p τ item w
 
-abbrev pub Places : Placed → Phase → Time → Bool → List ℕ → List ℕ → records.Record → Type 0
+abbrev pub Places : Result Placed Refusal → Phase → Time → Bool → List ℕ → List ℕ → records.Record → Type 0
 Places s p τ free name w k = PlacedIs s (reading_by p τ (form_of free) (block_of name w)) k × MayRead s p τ w
 
 -- ratios are listed where the code counts some
@@ -144,12 +147,12 @@ module _ (τ : Time) (free : Bool) (name w : List ℕ) where
   zz_placed phase.BeforeBlocks = (λ l. refl, tt)
   zz_placed phase.InBlock = (λ l. refl, tt)
 
-  pub km_placed : (p : Phase) → Places (Passed free) p τ free name w KM
+  pub km_placed : (p : Phase) → Places (Ok (Passed free)) p τ free name w KM
   km_placed phase.BeforeTime = (λ l. refl, tt)
   km_placed phase.BeforeBlocks = (λ l. refl, tt)
   km_placed phase.InBlock = (λ l. refl, tt)
 
-  pub control_placed : (next : Bool) (p : Phase) → Places (Passed next) p τ free name w (Control (form_of next))
+  pub control_placed : (next : Bool) (p : Phase) → Places (Ok (Passed next)) p τ free name w (Control (form_of next))
   control_placed next phase.BeforeTime = (λ l. refl, tt)
   control_placed next phase.BeforeBlocks = (λ l. refl, tt)
   control_placed next phase.InBlock = (λ l. refl, tt)

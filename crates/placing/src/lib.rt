@@ -64,19 +64,11 @@ pub fn open_block(r: Reading, name: Name, cards: &mut [u64]) -> Reading
     }
 }
 
-// What a record does where the reading stands: it is out of place; the reading goes on in that form; it names a block; it ends the deck; it has fields.
+// What a record does where it stands in its place: the reading goes on in that form; it names a block; it ends the deck; it has fields.
 #[derive(Clone, Copy)]
 pub enum Placed {
-    Misplaced,
     Passed(bool),
     Named,
     Last,
     Fields(usize),
-}
-
-// The name that a KK line gives, and whether it is none.
-#[derive(Clone, Copy)]
-pub struct Label {
-    pub bad: bool,
-    pub name: Name,
 }

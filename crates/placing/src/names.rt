@@ -5,9 +5,10 @@ ghost use Rattle.fields.specs.Spans.{form_of};
 ghost use Rattle.blocks.specs.Meant.{name_is};
 ghost use Rattle.placing.specs.Labels.{Labels};
 
-use super::Label;
 use blocks::Name;
+use refusals::Refusal;
 
+// The name where no block is named yet.
 pub fn no_name() -> Name
     ensures { (name_is result ≡ []) × (result.letters ≤ 6) }
 {
@@ -31,7 +32,8 @@ fn copy_name(f: &[u8]) -> Name
     }
 }
 
-pub fn read_name(free: bool, l: &[u8]) -> Label
+// The name that a KK line gives, where it is one.
+pub fn read_name(free: bool, l: &[u8]) -> Result<Name, Refusal>
     requires { length l.now ≤ 80 }
     ensures { Labels (name_in (form_of free) l.now) result }
 {
@@ -40,13 +42,7 @@ pub fn read_name(free: bool, l: &[u8]) -> Label
     let to = span.to;
     let f = &l[from..to];
     if fields::bad_name(f) {
-        return Label {
-            bad: true,
-            name: no_name(),
-        };
+        return Err(Refusal::Malformed);
     }
-    Label {
-        bad: false,
-        name: copy_name(f),
-    }
+    Ok(copy_name(f))
 }

@@ -11,64 +11,51 @@ ghost use Rattle.placing.specs.Places.{before_time, after_time, before_blocks, i
 
 use super::{Phase, Placed, Reading};
 use identifiers::Record;
+use refusals::Refusal;
 
 // A record that stands only before IT, and IT itself.
-fn before_time(phase: Phase, then: Placed) -> Placed
+fn before_time(phase: Phase, then: Placed) -> Result<Placed, Refusal>
     ensures { result ≡ before_time phase then }
 {
     match phase {
-        Phase::BeforeTime => then,
-        Phase::BeforeBlocks => Placed::Misplaced,
-        Phase::InBlock => Placed::Misplaced,
+        Phase::BeforeTime => Ok(then),
+        _ => Err(Refusal::Misplaced),
     }
 }
 
 // One that stands only after it.
-fn after_time(phase: Phase, then: Placed) -> Placed
+fn after_time(phase: Phase, then: Placed) -> Result<Placed, Refusal>
     ensures { result ≡ after_time phase then }
 {
     match phase {
-        Phase::BeforeTime => Placed::Misplaced,
-        Phase::BeforeBlocks => then,
-        Phase::InBlock => then,
+        Phase::BeforeTime => Err(Refusal::Misplaced),
+        _ => Ok(then),
     }
 }
 
 // The ratios stand between the time control and the first block, and only if none are listed yet.
-fn before_blocks(phase: Phase, listed: usize) -> Placed
+fn before_blocks(phase: Phase, listed: usize) -> Result<Placed, Refusal>
     ensures { result ≡ before_blocks phase (0 <? listed) }
 {
     match phase {
-        Phase::BeforeTime => Placed::Misplaced,
-        Phase::BeforeBlocks => {
-            if 0 < listed {
-                return Placed::Misplaced;
-            }
-            Placed::Fields(records::JR)
-        }
-        Phase::InBlock => Placed::Misplaced,
+        Phase::BeforeBlocks if listed == 0 => Ok(Placed::Fields(records::JR)),
+        _ => Err(Refusal::Misplaced),
     }
 }
 
 // A record of a block stands in one, and one that stands once is not there yet.
-fn in_block(phase: Phase, cards: &[u64], item: usize) -> Placed
+fn in_block(phase: Phase, cards: &[u64], item: usize) -> Result<Placed, Refusal>
     requires { (item < items) × Readable cards.now }
     ensures { (name : List ℕ) → result ≡ in_block phase (repeated item (block_of name cards.now)) item }
 {
     match phase {
-        Phase::BeforeTime => Placed::Misplaced,
-        Phase::BeforeBlocks => Placed::Misplaced,
-        Phase::InBlock => {
-            if blocks::is_repeated(cards, item) {
-                return Placed::Misplaced;
-            }
-            Placed::Fields(item)
-        }
+        Phase::InBlock if !blocks::is_repeated(cards, item) => Ok(Placed::Fields(item)),
+        _ => Err(Refusal::Misplaced),
     }
 }
 
 // What a record does where the reading stands.
-pub fn place_record(r: Reading, cards: &[u64], k: Record) -> Placed
+pub fn place_record(r: Reading, cards: &[u64], k: Record) -> Result<Placed, Refusal>
     requires { OfTable k × Readable cards.now }
     ensures { PlacedIs result (reading_is r cards.now) (record_is k) × MayRead result r.phase (time_is r.time) cards.now }
 {
@@ -78,10 +65,10 @@ pub fn place_record(r: Reading, cards: &[u64], k: Record) -> Placed
         Record::It => before_time(phase, Placed::Fields(records::IT)),
         Record::Jr => before_blocks(phase, r.time.ratios.count),
         Record::Kk => after_time(phase, Placed::Named),
-        Record::Km => Placed::Passed(r.free),
+        Record::Km => Ok(Placed::Passed(r.free)),
         Record::Zz => after_time(phase, Placed::Last),
-        Record::Free => Placed::Passed(true),
-        Record::Fix => Placed::Passed(false),
+        Record::Free => Ok(Placed::Passed(true)),
+        Record::Fix => Ok(Placed::Passed(false)),
         Record::Of(item) => in_block(phase, cards, item),
     }
 }

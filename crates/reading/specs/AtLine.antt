@@ -1,13 +1,12 @@
 -- A turn of the loop over lines: what a line does carries the reading on, or is what was looked for.
---     AtLine         what a turn knows of its line
 --     goes, refuses, opens_block, ends_deck    the four things that a line can do
+--     goes_on, event_met    and what reading on comes to by them
 --     pass-read      a pass over its fields that met no fault
 --     pass_fault     and one that met one
-use Rattle.std.specs.Prelude.{ℕ, zero, suc, ◌+◌, ◌-◌, ◌≡◌, refl, Bool, true, false, List, [], ◌∷◌, drop}
+use Rattle.std.specs.Prelude.{ℕ, ◌+◌, ◌≤◌, ◌≡◌, refl, true, false, List, [], ◌∷◌, drop, Option, None, Some, Result, Ok, Err}
 use Rattle.std.proofs.Math.Path.{sym}
-use Rattle.std.proofs.Common.{ap, ◌∙◌}
-use Rattle.sequences.specs.Parts.{part}
-use Rattle.meaning.specs.Lines.{lines_of}
+use Rattle.std.proofs.Common.{ap, ◌∙◌, arith}
+use Rattle.meaning.specs.Lines.{foreign, lines_of}
 use Rattle.meaning.specs.Fields.{Form, fields_in, fields_of}
 use Rattle.meaning.specs.Records as records
 use Rattle.meaning.specs.Records.{Item, Row, rules_in, rules_of, time_rules, filled_up, value_fields, bad_name, rule_at, faulty_field, any_field, any_faulty}
@@ -15,7 +14,8 @@ use Rattle.meaning.specs.Blocks.{Time}
 use Rattle.meaning.specs.Run as run
 use Rattle.meaning.specs.Run.{Event, Refuse, Go, Open, End, unless, time_refusal, ratio_refusal, item_refusal, name_refusal, read_line}
 use Rattle.events.specs.NextEvent.{Found, Missing, Met, met_by, next_event}
-use Rattle.lines.specs.First.{FairAt, ForeignAt}
+use Rattle.refusals.specs.declared.Refusal.{Refusal}
+use Rattle.lines.specs.First.{FairAt}
 use Rattle.fields.specs.Spans.{form_of, first_place}
 use Rattle.identifiers.specs.Passed.{foreign-head}
 use Rattle.records.specs.Rows.{field_row, rules_by, ratio_scan, block_row, few_rules, span_in}
@@ -31,41 +31,65 @@ use Rattle.placing.specs.declared.Reading.{Reading}
 use Rattle.placing.specs.Readings.{reading_by, reading_is, opened_in, Ready}
 use Rattle.placing.specs.Places.{Due, fields_event, name_event}
 use Rattle.taking.specs.Ratios.{ratio_faults}
-use Rattle.sorting.specs.Sorted.{with_free}
+use Rattle.reading.specs.declared.Event as coded
+use Rattle.reading.specs.declared.Event.TheVariants as coded-event
+use Rattle.reading.specs.Found.{Gets}
+use Rattle.reading.specs.OneLine.{NextIs, Behind}
 
--- At `at` the line from there to `end` is the next, behind n lines; the reading stands at q, and comes to f.
-pub record AtLine (s : List ℕ) (at end next n : ℕ) (q : run.Reading) (f : Found) : Type 0 where
-  pub fair : FairAt s at end next
-  pub so_far : next_event (lines_of (drop at s)) q (n + 1) ≡ f
-
-module _ {s : List ℕ} {at end next n : ℕ} {q : run.Reading} {f : Found} (t : AtLine s at end next n q f) where
-  abbrev line : List ℕ
-  line = part at (end - at) s
-
-  abbrev rest : List (List ℕ)
-  rest = lines_of (drop next s)
-
-  turned : met_by (read_line q line) q (n + 1) rest (λ (r : run.Reading). next_event rest r (n + 1 + 1)) ≡ f
+-- A line at `at`, behind n lines, where the reading on from there comes to f.
+module _ {s : List ℕ} {at : ℕ} {r : Reading} {w : List ℕ} {at' : ℕ} {r' : Reading} {w' : List ℕ} {x : Result (Option coded.Event) Refusal} (t : NextIs s at r w at' r' w' x)
+    (n : ℕ) (f : Found) (so_far : next_event (lines_of (drop at s)) (reading_is r w) (n + 1) ≡ f) where
+  turned : met_by (read_line (reading_is r w) t.line) (reading_is r w) (n + 1) t.rest (λ (q : run.Reading). next_event t.rest q (n + 1 + 1)) ≡ f
   unfolding next_event
-  turned = rw t.fair.lines at t.so_far
+  turned = rw t.lines at so_far
 
-  pub goes : (r : run.Reading) → read_line q line ≡ Go r → next_event rest r (n + 1 + 1) ≡ f
-  goes r e = rw e at turned
+  pub goes : (q : run.Reading) → read_line (reading_is r w) t.line ≡ Go q → next_event t.rest q (n + 1 + 1) ≡ f
+  goes q e = rw e at turned
 
-  pub refuses : (number : ℕ) → read_line q line ≡ Refuse number → f ≡ Met (Refuse number) q (n + 1) rest
+  pub refuses : (number : ℕ) → read_line (reading_is r w) t.line ≡ Refuse number → f ≡ Met (Refuse number) (reading_is r w) (n + 1) t.rest
   refuses number e = sym (rw e at turned)
 
-  pub opens_block : (read name : List ℕ) → name ≡ read → read_line q line ≡ Open (opened_in q read) → f ≡ Met (Open (opened_in q name)) q (n + 1) rest
-  opens_block read name same e = sym (rw (e, ← same) at turned)
+  pub opens_block : (q : run.Reading) → read_line (reading_is r w) t.line ≡ Open q → f ≡ Met (Open q) (reading_is r w) (n + 1) t.rest
+  opens_block q e = sym (rw e at turned)
 
-  pub ends_deck : (τ : Time) → read_line q line ≡ End τ → f ≡ Met (End τ) q (n + 1) rest
+  pub ends_deck : (τ : Time) → read_line (reading_is r w) t.line ≡ End τ → f ≡ Met (End τ) (reading_is r w) (n + 1) t.rest
   ends_deck τ e = sym (rw e at turned)
 
+-- what it comes to: the reading goes on
+pub goes_on : {s : List ℕ} {at : ℕ} {r : Reading} {w : List ℕ} {at' : ℕ} {r' : Reading} {w' : List ℕ} (t : NextIs s at r w at' r' w' (Ok None))
+    (n : ℕ) (f : Found) → next_event (lines_of (drop at s)) (reading_is r w) (n + 1) ≡ f → next_event (lines_of (drop at' s)) (reading_is r' w') (n + 1 + 1) ≡ f
+goes_on t n f so_far = rw t.behind.2 at (goes t n f so_far _ t.does.0)
+
+-- an event is met
+pub event_met : {s : List ℕ} {at : ℕ} {r : Reading} {w : List ℕ} {at' : ℕ} {r' : Reading} {w' : List ℕ} (event : coded.Event) (t : NextIs s at r w at' r' w' (Ok (Some event)))
+    (from before n : ℕ) (start : run.Reading) → next_event (lines_of (drop at s)) (reading_is r w) (n + 1) ≡ next_event (lines_of (drop from s)) start (before + 1)
+    → Ready r w → from ≤ at → n ≤ at → Gets s from before start (record { event = event; reading = r'; at = at'; line = n + 1 }) w'
+event_met (coded-event.Refused refusal) t from before n start so_far ready forth counted = absurd t.does
+event_met (coded-event.Opened name) t from before n start so_far ready forth counted =
+    let d = t.does in
+    let b = t.behind in
+    record {
+      found = rw (d.2, d.3, ← b.2) (opens_block t n _ so_far _ d.0);
+      onward = (record { ready = rw (d.2, d.3) ready; within = b.1; forth = omega arith; counted = omega arith }, d.1);
+    }
+event_met coded-event.Ended t from before n start so_far ready forth counted =
+    let d = t.does in
+    let b = t.behind in
+    record {
+      found = rw (d.1, d.2, ← b.2) (ends_deck t n _ so_far _ d.0);
+      onward = record { ready = rw (d.1, d.2) ready; within = b.1; forth = omega arith; counted = omega arith };
+    }
+event_met coded-event.Missing t from before n start so_far ready forth counted = absurd t.does
+
 -- a foreign line
-pub foreign-found : (s : List ℕ) (at n : ℕ) (q : run.Reading) (f : Found) → ForeignAt s at → next_event (lines_of (drop at s)) q (n + 1) ≡ f
-    → (p : run.Reading) × (later : List (List ℕ)) × (f ≡ Met (Refuse 3) p (n + 1) later)
-unfolding next_event read_line
-foreign-found s at n q f a e = (q, a.rest, sym (rw (a.lines, foreign-head a.line a.met) at e))
+pub foreign_refused : (q : run.Reading) (l : List ℕ) → foreign l ≡ true → read_line q l ≡ Refuse 3
+unfolding read_line
+foreign_refused q l h = rw (foreign-head l h)
+
+-- and one that is not: where the next one begins
+pub fair_behind : {s : List ℕ} {at end next : ℕ} → FairAt s at end next → (x : Result (Option coded.Event) Refusal) → Behind s at next (lines_of (drop next s)) x
+fair_behind f (Ok x) = (f.goes_on, f.within, refl)
+fair_behind f (Err refusal) = tt
 
 -- past the last line
 pub none_found : (s : List ℕ) (at n : ℕ) (q : run.Reading) (f : Found) → drop at s ≡ [] → next_event (lines_of (drop at s)) q (n + 1) ≡ f
@@ -108,10 +132,6 @@ pub fault_event : (item : Item) (r : Reading) (w : List ℕ) (fs : List (List �
     → fields_event item (reading_is r w) fs ≡ Refuse 6
 fault_event item r w fs due e = fault_by r.phase item (time_is r.time) (form_of r.free) (name_is r.name) w fs due e
 
--- THE READING IN ANOTHER FORM
-pub ready_form : {r : Reading} {w : List ℕ} (free : Bool) → Ready r w → Ready (with_free r free) w
-ready_form free k = record { few_ordinates = k.few_ordinates; few-ratios = k.few-ratios; short-name = k.short-name; readable = k.readable; counted = k.counted }
-
 -- NAMES
 pub name_bad : (q : run.Reading) (name : List ℕ) → bad_name name ≡ true → name_event q name ≡ Refuse 6
 unfolding name_refusal
@@ -120,14 +140,6 @@ name_bad q name e = rw e
 pub name_good : (q : run.Reading) (name : List ℕ) → bad_name name ≡ false → name_event q name ≡ Open (opened_in q name)
 unfolding name_refusal
 name_good q name e = rw e
-
--- a refusal that is met
-pub unless-met : (n : ℕ) (e : Event) → (n ≡ 0 → ⊥) → unless n e ≡ Refuse n
-unless-met zero e h = absurd (h refl)
-unless-met (suc n) e h = refl
-
-pub unless_none : (n : ℕ) (e : Event) → n ≡ 0 → unless n e ≡ e
-unless_none n e z = rw z
 
 -- ONE FIELD NOTED
 module _ (rules : List records.Rule) (i : ℕ) (f : List ℕ) (later all : List (List ℕ)) where

@@ -21,7 +21,7 @@ ghost use Rattle.reasons.specs.Sizes.{rules_size, why_size, reason_size};
 ghost use Rattle.reasons.specs.Stated.{stated_rules, stated_fields, named_in};
 ghost use Rattle.reasons.specs.ByRecord.{raised};
 
-use identifiers::{Head, Record};
+use identifiers::Record;
 use numbers::Number;
 use rules::{Field, Rule};
 
@@ -231,9 +231,8 @@ fn write_line(out: &mut [u8], six: bool, free: bool, l: &[u8]) -> usize
     ensures { Written out.old 0 (head_reason six (form_of free) l.now (plain_head l.now)) out.new result }
 {
     match identifiers::head_of(l) {
-        Head::Holds(k) => write_record(out, six, free, l, k),
-        Head::Skipped => 0,
-        Head::Unknown => 0,
+        Ok(Some(k)) => write_record(out, six, free, l, k),
+        _ => 0,
     }
 }
 
@@ -243,13 +242,11 @@ pub fn reason_line(s: &[u8], six: bool, free: bool, out: &mut [u8]) -> usize
     ensures told { Written out.old 0 (reason six (form_of free) s.now) out.new result }
     ensures counted { Counted result out.new }
 {
-    if s.len() < 1 {
+    if s.is_empty() {
         return 0;
     }
-    let line = lines::line_at(s, 0);
-    let end = line.end;
-    if line.fair {
-        return write_line(out, six, free, &s[..end]);
+    match lines::line_at(s, 0) {
+        Ok(line) => write_line(out, six, free, &s[..line.end]),
+        Err(_) => 0,
     }
-    0
 }

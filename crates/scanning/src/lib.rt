@@ -1,16 +1,16 @@
 // One pass over a line's fields: each is found, held against its record's rule, and its value kept, so that refusals 6 to 8 and the block's values need no second look.
 #![tactic(auto)]
 
-ghost use Rattle.std.specs.Prelude.{◌≡◌, true, false, ◌||◌, ◌+◌, ◌≤◌, length};
+ghost use Rattle.std.specs.Prelude.{◌≡◌, ◌||◌, ◌+◌, ◌≤◌, length};
 ghost use Rattle.meaning.specs.Words.{when◌then◌else◌};
-ghost use Rattle.meaning.specs.Records.{rule_at, faulty_field};
 ghost use Rattle.fields.specs.Spans.{form_of, Stands};
 ghost use Rattle.records.specs.Rows.{rules_by};
-ghost use Rattle.scanning.specs.Pass.{kept, noted};
-ghost use Rattle.scanning.specs.Scans.{scanned_of, blank_by};
+ghost use Rattle.scanning.specs.Pass.{kept};
+ghost use Rattle.scanning.specs.Scans.{blank_by, Notes};
 ghost use Rattle.scanning.specs.FieldsLeft.{left_by, blank_span, next_span};
 
 use fields::Span;
+use refusals::Refusal;
 use rules::Field;
 
 // What a pass over a line's fields keeps beside their values: the place of the last field that is not blank, from 1, and whether a value is outside its limits.
@@ -20,30 +20,14 @@ pub struct Scan {
     pub outside: bool,
 }
 
-// A field noted: whether it is a fault, and what the pass keeps.
-#[derive(Clone, Copy)]
-pub struct Noted {
-    pub faulty: bool,
-    pub scan: Scan,
-}
-
 // A value of field `k` kept, of ten.
 fn keep(values: &mut [u64], k: usize, v: u64)
     requires { length values.old ≡ 10 }
     ensures { values.new ≡ kept k v values.old }
 {
-    if k < 10 {
+    if k < values.len() {
         values[k] = v;
     }
-}
-
-fn either(a: bool, b: bool) -> bool
-    ensures { result ≡ (a || b) }
-{
-    if a {
-        return true;
-    }
-    b
 }
 
 // The place of the last field that is not blank, and the flag, behind field `k`.
@@ -51,38 +35,28 @@ fn note(scan: Scan, k: usize, length: usize, outside: bool) -> Scan
     requires { k ≤ 100 }
     ensures { (result.count ≡ (when blank_by length then scan.count else k + 1)) × (result.outside ≡ (scan.outside || outside)) }
 {
-    let flag = either(scan.outside, outside);
-    let before = scan.count;
-    if 0 < length {
-        return Scan {
-            count: k + 1,
-            outside: flag,
-        };
-    }
     Scan {
-        count: before,
-        outside: flag,
+        count: if 0 < length { k + 1 } else { scan.count },
+        outside: scan.outside || outside,
     }
 }
 
-// Field `k` of a line, the bytes `f`, noted: its value is kept, unless it is a fault.
-pub fn note_field(values: &mut [u64], scan: Scan, item: usize, k: usize, f: &[u8]) -> Noted
+// Field `k` of a line, the bytes `f`, noted: its value is kept, unless it is a fault, by which the line is refused.
+pub fn note_field(
+    values: &mut [u64],
+    scan: Scan,
+    item: usize,
+    k: usize,
+    f: &[u8],
+) -> Result<Scan, Refusal>
     requires { (k ≤ 100) × (length values.old ≡ 10) }
-    ensures faulty_value { result.faulty ≡ faulty_field (rule_at (rules_by item) k) f.now }
-    ensures scan_after { result.faulty ≡ false → scanned_of values.new result.scan ≡ noted (rules_by item) k f.now (scanned_of values.old scan) }
-    ensures scan_after_2 { result.faulty ≡ true → scanned_of values.new result.scan ≡ scanned_of values.old scan }
+    ensures { Notes (rules_by item) k f.now values.old scan values.new result }
 {
     match records::field_at(item, k, f) {
-        Field::Faulty => Noted {
-            faulty: true,
-            scan: scan,
-        },
+        Field::Faulty => Err(Refusal::Malformed),
         Field::Value(v, outside) => {
             keep(values, k, v);
-            Noted {
-                faulty: false,
-                scan: note(scan, k, f.len(), outside),
-            }
+            Ok(note(scan, k, f.len(), outside))
         }
     }
 }
@@ -91,10 +65,7 @@ pub fn note_field(values: &mut [u64], scan: Scan, item: usize, k: usize, f: &[u8
 pub fn is_left(length: usize, c: usize, i: usize, named: usize) -> bool
     ensures { result ≡ left_by length c i named }
 {
-    if c < length {
-        return true;
-    }
-    i < named
+    c < length || i < named
 }
 
 // Field `i` of a line past its end is blank, and the next one is looked for behind it.

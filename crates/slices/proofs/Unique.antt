@@ -1,5 +1,5 @@
 -- Two outcomes that meet a contract of this crate, as its `ensures` line has it, are equal.
-use mathlib.Core.Path.{◌≡◌}
+use mathlib.Core.Path.{◌≡◌, sym, ◌∙◌}
 use Rattle.sequences.specs.OneOutcome.{Once}
 use Rattle.slices.proofs.zero_words.Kinds as zero-words
 use Rattle.slices.proofs.zero_words.Reads as zero-words-says
@@ -15,6 +15,8 @@ use Rattle.slices.proofs.number_at.Kinds as number_at
 use Rattle.slices.proofs.number_at.Reads as number-at-says
 use Rattle.slices.proofs.smaller.Kinds as smaller
 use Rattle.slices.proofs.smaller.Reads as smaller-says
+use Rattle.slices.proofs.trim_end.Kinds as trim-end
+use Rattle.slices.proofs.trim_end.Reads as trim-end-says
 
 pub one_zero-words : Once zero-words.ps zero-words.r zero-words-says.Post (λ κs x y e f. e.0.now ≡ f.0.now)
 one_zero-words κs a x y e f p q = cc
@@ -36,3 +38,6 @@ one_number_at κs a x y e f p q = cc
 
 pub one_smaller : Once smaller.ps smaller.r smaller-says.Post (λ κs x y e f. x ≡ y)
 one_smaller κs a x y e f p q = cc
+
+pub one_trim_end : Once trim-end.ps trim-end.r trim-end-says.Post (λ κs x y e f. x.now ≡ y.now)
+one_trim_end κs a x y e f p q = p ∙ sym q

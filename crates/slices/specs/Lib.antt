@@ -1,2 +1,3 @@
--- Numbers in bytes.
+-- Numbers in bytes; bytes without the last ones that are one byte.
 pub mod Bytes
+pub mod Trimmed

@@ -6,33 +6,16 @@ ghost use Rattle.meaning.specs.Lines.{foreign};
 ghost use Rattle.blocks.specs.Cards.{Readable};
 ghost use Rattle.sorting.specs.Sorted.{SortedIs};
 
-use identifiers::Head;
 use placing::{Placed, Reading};
+use refusals::Refusal;
 
-// A line is refused; it is passed, and the reading goes on in that form; it names a block; it ends the deck; or it has fields, of the record at that place.
-#[derive(Clone, Copy)]
-pub enum Sorted {
-    Refused(u64),
-    Passed(bool),
-    Named,
-    Last,
-    Fields(usize),
-}
-
-// A line that passed 3.
-pub fn sort_line(r: Reading, cards: &[u64], l: &[u8]) -> Sorted
+// A line that passed 3. The reading passes a line of blanks, and goes on in the same form.
+pub fn sort_line(r: Reading, cards: &[u64], l: &[u8]) -> Result<Placed, Refusal>
     requires { (foreign l.now ≡ false) × Readable cards.now }
     ensures { SortedIs result r cards.now l.now }
 {
-    match identifiers::head_of(l) {
-        Head::Skipped => Sorted::Passed(r.free),
-        Head::Unknown => Sorted::Refused(4),
-        Head::Holds(k) => match placing::place_record(r, cards, k) {
-            Placed::Misplaced => Sorted::Refused(5),
-            Placed::Passed(free) => Sorted::Passed(free),
-            Placed::Named => Sorted::Named,
-            Placed::Last => Sorted::Last,
-            Placed::Fields(item) => Sorted::Fields(item),
-        },
+    match identifiers::head_of(l)? {
+        None => Ok(Placed::Passed(r.free)),
+        Some(k) => placing::place_record(r, cards, k),
     }
 }

@@ -1,10 +1,10 @@
 -- What a line with fields does, from what the pass over its fields kept: outside its limits it is refused by 7, else its values are taken.
---     LineTaken       what taking a line leaves
+--     LineTaken       what taking a line does, and leaves
 --     control_outside, item_outside    refusal 7
 --     time-line       the time control taken
 --     ratio-line      the ratios taken, or refused by 7
 --     item_line       a record of the open block taken, or refused by 8
-use Rattle.std.specs.Prelude.{ℕ, zero, suc, ◌≤◌, ◌<◌, ◌≡◌, refl, Bool, true, false, List, [], take, get_or}
+use Rattle.std.specs.Prelude.{ℕ, zero, suc, ◌≤◌, ◌<◌, ◌≡◌, refl, Bool, true, false, List, [], take, get_or, Result, Ok, Err}
 use Rattle.std.proofs.Math.Path.{sym}
 use Rattle.std.proofs.Common.{◌∙◌, ap, subst, arith}
 use Rattle.std.proofs.Math.Seq.{get_or-take}
@@ -12,7 +12,10 @@ use Rattle.meaning.specs.Words.{met}
 use Rattle.meaning.specs.Fields.{Form}
 use Rattle.meaning.specs.Records.{Row, Item, row_of, filled_up, rules_of, time_rules, value_fields, any_faulty, any_outside, most_ordinates}
 use Rattle.meaning.specs.Blocks.{Time, Block, repeated, too_many}
-use Rattle.meaning.specs.Run.{BeforeBlocks, InBlock, Refuse, Go, unless, time_refusal, time_of, with_ratios, item_values, item_refusal, with_item}
+use Rattle.meaning.specs.Run.{BeforeBlocks, InBlock, Event, Refuse, Go, unless, time_refusal, time_of, with_ratios, item_values, item_refusal, with_item}
+use Rattle.refusals.specs.declared.Refusal.{Refusal}
+use Rattle.refusals.specs.declared.Refusal.TheVariants.{OutsideLimits}
+use Rattle.refusals.specs.Numbers.{refusal_number, refusal_in, named_by, named_back}
 use Rattle.fields.specs.Spans.{form_of}
 use Rattle.records.specs.Rows.{items, field_row, block_row, span_in}
 use Rattle.blocks.specs.declared.Time as coded
@@ -25,7 +28,6 @@ use Rattle.scanning.specs.WholeLine.{fields_in_lem, LineRead}
 use Rattle.placing.specs.declared.Phase.{Phase}
 use Rattle.placing.specs.declared.Phase.TheVariants as phase
 use Rattle.placing.specs.declared.Reading.{Reading}
-use Rattle.taking.specs.declared.Read.{Read}
 use Rattle.placing.specs.Readings.{reading_by, reading_is, block_is, Ready}
 use Rattle.placing.specs.Places.{Due, DueTime, fields_event}
 use Rattle.taking.specs.Ratios.{kept_ratios, no_ratio, ratio_outside, ratio_number, ratio-listed}
@@ -51,27 +53,43 @@ time_taken values = record { minutes = get_or values 0 0; ordinates = get_or val
 abbrev pub with_listed : List ℕ → Time → Time
 with_listed ratios τ = record { minutes = τ.minutes; ordinates = τ.ordinates; ratio = τ.ratio; listed = ratios }
 
-pub record TimeTaken (r : Reading) (values : List ℕ) (x : Read) : Type 0 where
-  pub number : x.refusal ≡ 0
-  pub reading : Timed r (time_taken values) x.reading
+abbrev pub TimeTaken : Reading → (values : List ℕ) → Reading → Type 0
+TimeTaken r values x = Timed r (time_taken values) x
 
-pub record RatiosTaken (r : Reading) (count : ℕ) (values : List ℕ) (x : Read) : Type 0 where
-  pub number : x.refusal ≡ met (no_ratio count values) 7
-  pub reading : x.refusal ≡ 0 → Timed r (with_listed (kept_ratios count values) (time_is r.time)) x.reading
+abbrev pub RatiosTaken : Reading → (count : ℕ) → (values : List ℕ) → Result Reading Refusal → Type 0
+RatiosTaken r count values (Ok x) = (no_ratio count values ≡ false) × Timed r (with_listed (kept_ratios count values) (time_is r.time)) x
+RatiosTaken r count values (Err refusal) = (no_ratio count values ≡ true) × (refusal ≡ OutsideLimits)
 
 -- A pass over a line's fields that met no fault: what it kept is that of some fields.
 pub record Passed (item : Item) (s : Scanned) : Type 0 where
   pub fields : List (List ℕ)
   pub read : LineRead (field_row item) fields s
 
--- the reading where it stood, and what refused the line
-abbrev pub stays : Reading → ℕ → Read
-stays r refusal = record { refusal = refusal; reading = r }
+-- the reading where it stood, or what refused the line
+abbrev pub stays : {T : Type 0} → Reading → Result T Refusal → Result Reading Refusal
+stays r (Ok x) = Ok r
+stays r (Err refusal) = Err refusal
 
 -- What the line does, and that the reading may go on.
-pub record LineTaken (r : Reading) (item : Item) (s : Scanned) (x : Read) (w w' : List ℕ) : Type 0 where
-  pub event : (fs : List (List ℕ)) → LineRead (field_row item) fs s → unless x.refusal (Go (reading_is x.reading w')) ≡ fields_event item (reading_is r w) fs
-  pub ready : x.refusal ≡ 0 → Ready x.reading w'
+abbrev pub taken_event : Result Reading Refusal → List ℕ → Event
+taken_event (Ok x) w = Go (reading_is x w)
+taken_event (Err refusal) w = Refuse (refusal_number refusal)
+
+abbrev pub MayGoOn : Result Reading Refusal → List ℕ → Type 0
+MayGoOn (Ok x) w = Ready x w
+MayGoOn (Err refusal) w = Unit
+
+pub record LineTaken (r : Reading) (item : Item) (s : Scanned) (x : Result Reading Refusal) (w w' : List ℕ) : Type 0 where
+  pub event : (fs : List (List ℕ)) → LineRead (field_row item) fs s → taken_event x w' ≡ fields_event item (reading_is r w) fs
+  pub ready : MayGoOn x w'
+
+-- no refusal has the number 0
+number_some : (refusal : Refusal) (e : Event) → unless (refusal_number refusal) e ≡ Refuse (refusal_number refusal)
+number_some refusal e = by (refusal_number refusal) refl
+  where
+    by : (n : ℕ) → refusal_number refusal ≡ n → unless n e ≡ Refuse n
+    by zero h = let first = sym (named_back refusal) ∙ ap named_by h in absurd (let z : 1 ≡ 0 = rw first at h in omega arith)
+    by (suc n) h = refl
 
 -- THE TIME CONTROL
 module _ (fs : List (List ℕ)) (s : Scanned) (read : LineRead (field_row items) fs s) where
@@ -158,8 +176,8 @@ timed_ready {r} {x} {τ} t few ready =
     }
 
 module _ (r : Reading) (item : Item) (s : Scanned) (w : List ℕ) where
-  refused-seven : ((fs : List (List ℕ)) → LineRead (field_row item) fs s → Refuse 7 ≡ fields_event item (reading_is r w) fs) → LineTaken r item s (stays r 7) w w
-  refused-seven seven = record { event = seven; ready = λ z. absurd (omega arith) }
+  refused-seven : ((fs : List (List ℕ)) → LineRead (field_row item) fs s → Refuse 7 ≡ fields_event item (reading_is r w) fs) → LineTaken r item s (Err OutsideLimits) w w
+  refused-seven seven = record { event = seven; ready = tt }
 
   outside-by : (p : Phase) → DueTime p (time_is r.time) item → (fs : List (List ℕ)) → LineRead (field_row item) fs s → s.outside ≡ true
       → Refuse 7 ≡ fields_event item (reading_by p (time_is r.time) (form_of r.free) (block_is r w)) fs
@@ -167,10 +185,10 @@ module _ (r : Reading) (item : Item) (s : Scanned) (w : List ℕ) where
   outside-by phase.BeforeBlocks due fs read e = rw (ratio_outside fs s (at_place due.0 read) (time_is r.time) due.1 e)
   outside-by phase.InBlock due fs read e = absurd due
 
-  pub control_outside : DueTime r.phase (time_is r.time) item → s.outside ≡ true → LineTaken r item s (stays r 7) w w
+  pub control_outside : DueTime r.phase (time_is r.time) item → s.outside ≡ true → LineTaken r item s (Err OutsideLimits) w w
   control_outside due e = refused-seven (λ fs read. outside-by r.phase due fs read e)
 
-  pub item_outside : r.phase ≡ phase.InBlock → Due phase.InBlock (time_is r.time) item w → s.outside ≡ true → LineTaken r item s (stays r 7) w w
+  pub item_outside : r.phase ≡ phase.InBlock → Due phase.InBlock (time_is r.time) item w → s.outside ≡ true → LineTaken r item s (Err OutsideLimits) w w
   item_outside place due e =
       refused-seven (λ fs read. rw (place, outside_item item fs s (at_row due.0 read) (block_is r w) (due.1 (name_is r.name)) (time_is r.time) e))
 
@@ -178,43 +196,46 @@ module _ (r : Reading) (item : Item) (s : Scanned) (w : List ℕ) where
   time_few due p inside = few_ordinates p.fields s (at_place due p.read) inside
 
   module _ (inside : s.outside ≡ false) (ready : Ready r w) where
-    pub time-line : r.phase ≡ phase.BeforeTime → item ≡ items → Passed item s → (x : Read) → TimeTaken r s.values x → LineTaken r item s x w w
+    pub time-line : r.phase ≡ phase.BeforeTime → item ≡ items → Passed item s → (x : Reading) → TimeTaken r s.values x → LineTaken r item s (Ok x) w w
     time-line place due p x t =
         record {
-          event = λ fs read. rw (t.number, timed_is w t.reading, place, time-sound fs s (at_place due read) inside, time-read fs s (at_place due read));
-          ready = λ z. timed_ready t.reading (time_few due p inside) ready;
+          event = λ fs read. rw (timed_is w t, place, time-sound fs s (at_place due read) inside, time-read fs s (at_place due read));
+          ready = timed_ready t (time_few due p inside) ready;
         }
 
-    ratio_event : (none : Bool) → no_ratio s.count s.values ≡ none → (x : Read) → RatiosTaken r s.count s.values x
-        → (fs : List (List ℕ)) → LineRead (field_row (suc items)) fs s
-        → unless (met none 7) (Go (reading_is x.reading w)) ≡ unless (met none 7) (Go (BeforeBlocks (with_ratios fs (time_is r.time)) (form_of r.free)))
-    ratio_event true e x t fs read = refl
-    ratio_event false e x t fs read = rw (timed_is w (t.reading (t.number ∙ rw e)), ratios-read fs s read (time_is r.time) e)
+    module _ (place : r.phase ≡ phase.BeforeBlocks) (due : DueTime phase.BeforeBlocks (time_is r.time) item) where
+      ratio_met : (none : Bool) → no_ratio s.count s.values ≡ none → (fs : List (List ℕ)) → LineRead (field_row item) fs s
+          → fields_event item (reading_is r w) fs ≡ unless (met none 7) (Go (BeforeBlocks (with_ratios fs (time_is r.time)) (form_of r.free)))
+      ratio_met none e fs read = rw (place, ratio_number fs s (at_place due.0 read) (time_is r.time) due.1 inside, e)
 
-    pub ratio-line : r.phase ≡ phase.BeforeBlocks → DueTime phase.BeforeBlocks (time_is r.time) item → (x : Read) → RatiosTaken r s.count s.values x → LineTaken r item s x w w
-    ratio-line place due x t =
-        record {
-          event =
-              λ fs read.
-              rw (t.number, place, ratio_number fs s (at_place due.0 read) (time_is r.time) due.1 inside) (ratio_event (no_ratio s.count s.values) refl x t fs (at_place due.0 read));
-          ready = λ z. timed_ready (t.reading z) ready.few_ordinates ready;
-        }
+      pub ratio-line : (x : Result Reading Refusal) → RatiosTaken r s.count s.values x → LineTaken r item s x w w
+      ratio-line (Ok x) t =
+          record {
+            event = λ fs read. rw (timed_is w t.1, ratio_met false t.0 fs read, ratios-read fs s (at_place due.0 read) (time_is r.time) t.0);
+            ready = timed_ready t.1 ready.few_ordinates ready;
+          }
+      ratio-line (Err refusal) t = record { event = λ fs read. rw (t.1, ratio_met true t.0 fs read); ready = tt }
 
-    pub item_line : r.phase ≡ phase.InBlock → Due phase.InBlock (time_is r.time) item w → (refusal : ℕ) (w' : List ℕ)
-        → Takes item r.time.ordinates (take (span_in (row_of item) s.count) s.values) w refusal w' → LineTaken r item s (stays r refusal) w w'
-    item_line place due refusal w' t =
-        record {
-          event =
-              λ fs read.
-              rw place
-              (item_event item fs s (at_row due.0 read) (name_is r.name) w (due.1 (name_is r.name)) (time_is r.time) (form_of r.free) refusal w' t inside);
-          ready =
-              λ z.
-              record {
-                few_ordinates = ready.few_ordinates;
-                few-ratios = ready.few-ratios;
-                short-name = ready.short-name;
-                readable = counted_readable t.kept;
-                counted = λ q. t.kept;
-              };
-        }
+    module _ (place : r.phase ≡ phase.InBlock) (due : Due phase.InBlock (time_is r.time) item w) where
+      item_met : (refusal : ℕ) (w' : List ℕ) → Takes item r.time.ordinates (take (span_in (row_of item) s.count) s.values) w refusal w'
+          → (fs : List (List ℕ)) → LineRead (field_row item) fs s → unless refusal (Go (reading_is r w')) ≡ fields_event item (reading_is r w) fs
+      item_met refusal w' t fs read =
+          rw place
+          (item_event item fs s (at_row due.0 read) (name_is r.name) w (due.1 (name_is r.name)) (time_is r.time) (form_of r.free) refusal w' t inside)
+
+      pub item_line : {T : Type 0} (x : Result T Refusal) (w' : List ℕ)
+          → Takes item r.time.ordinates (take (span_in (row_of item) s.count) s.values) w (refusal_in x) w' → LineTaken r item s (stays r x) w w'
+      item_line (Ok x) w' t =
+          record {
+            event = item_met 0 w' t;
+            ready =
+                record {
+                  few_ordinates = ready.few_ordinates;
+                  few-ratios = ready.few-ratios;
+                  short-name = ready.short-name;
+                  readable = counted_readable t.kept;
+                  counted = λ q. t.kept;
+                };
+          }
+      item_line (Err refusal) w' t =
+          record { event = λ fs read. sym (number_some refusal (Go (reading_is r w'))) ∙ item_met (refusal_number refusal) w' t fs read; ready = tt }

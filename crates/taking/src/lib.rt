@@ -8,38 +8,26 @@ ghost use Rattle.blocks.specs.Meant.{ratios_is, time_is};
 ghost use Rattle.scanning.specs.Scans.{scanned_of};
 ghost use Rattle.placing.specs.Readings.{Ready};
 ghost use Rattle.placing.specs.Places.{Due, DueTime};
-ghost use Rattle.taking.specs.Ratios.{any_zero};
 ghost use Rattle.taking.specs.Taken.{with_time, TimeTaken, RatiosTaken, Passed, LineTaken, stays};
 
 use blocks::{Ratios, Time};
 use placing::{Phase, Reading};
+use refusals::Refusal;
 use scanning::Scan;
-
-// A line's values taken: the refusal, 0 for none, and where the reading stands then.
-#[derive(Clone, Copy)]
-pub struct Read {
-    pub refusal: u64,
-    pub reading: Reading,
-}
-
-// A value outside its limits.
-const OUTSIDE: u64 = 7;
 
 // A reading behind IT, under that time control.
 fn with_time(r: Reading, time: Time) -> Reading
     ensures { result ≡ with_time r time }
 {
-    let name = r.name;
     Reading {
         phase: Phase::BeforeBlocks,
-        free: r.free,
-        time: time,
-        name: name,
+        time,
+        ..r
     }
 }
 
 // IT taken: minutes and ordinates.
-fn take_time(r: Reading, values: &[u64]) -> Read
+fn take_time(r: Reading, values: &[u64]) -> Reading
     requires { (length values.now ≡ 10) × (get_or values.now 3 0 ≤ most_ordinates) }
     ensures { TimeTaken r values.now result }
 {
@@ -49,24 +37,7 @@ fn take_time(r: Reading, values: &[u64]) -> Read
         ratio: 100,
         ratios: blocks::no_ratios(),
     };
-    Read {
-        refusal: 0,
-        reading: with_time(r, time),
-    }
-}
-
-// Whether a ratio is 0, as a blank one between others is.
-fn has_zero(ratios: &[u64]) -> bool
-    ensures { result ≡ any_zero ratios.now }
-{
-    let mut i = 0;
-    while i < ratios.len() {
-        if ratios[i] == 0 {
-            return true;
-        }
-        i += 1;
-    }
-    false
+    with_time(r, time)
 }
 
 // Ratios copied out of a line's values.
@@ -82,68 +53,55 @@ fn copy_ratios(listed: &[u64]) -> Ratios
     }
 }
 
-// JR taken: behind the word the line's ratios, of which there is one at least, and none is 0.
-fn take_ratios(r: Reading, values: &[u64], count: usize) -> Read
+// JR taken: behind the word the line's ratios, of which there is one at least, and none is 0, as a blank one between others is.
+fn take_ratios(r: Reading, values: &[u64], count: usize) -> Result<Reading, Refusal>
     requires { (length values.now ≡ 10) × (count ≤ 10) }
     ensures { RatiosTaken r count values.now result }
 {
     if count < 2 {
-        return Read {
-            refusal: OUTSIDE,
-            reading: r,
-        };
+        return Err(Refusal::OutsideLimits);
     }
     let listed = &values[1..count];
-    if has_zero(listed) {
-        return Read {
-            refusal: OUTSIDE,
-            reading: r,
-        };
+    if listed.contains(&0) {
+        return Err(Refusal::OutsideLimits);
     }
     let time = Time {
-        minutes: r.time.minutes,
-        ordinates: r.time.ordinates,
-        ratio: r.time.ratio,
         ratios: copy_ratios(listed),
+        ..r.time
     };
-    Read {
-        refusal: 0,
-        reading: with_time(r, time),
-    }
+    Ok(with_time(r, time))
 }
 
 // The values of IT or JR, read without a fault: outside their limits they are refused by 7, else they are taken.
-pub fn take_control(r: Reading, item: usize, values: &[u64], scan: Scan) -> Read
+pub fn take_control(r: Reading, item: usize, values: &[u64], scan: Scan) -> Result<Reading, Refusal>
     requires { DueTime r.phase (time_is r.time) item × Passed item (scanned_of values.now scan) }
     ensures { (w : List ℕ) → Ready r w → LineTaken r item (scanned_of values.now scan) result w w }
 {
     if scan.outside {
-        return Read {
-            refusal: OUTSIDE,
-            reading: r,
-        };
+        return Err(Refusal::OutsideLimits);
     }
-    let phase = r.phase;
-    match phase {
-        Phase::BeforeTime => take_time(r, values),
+    match r.phase {
+        Phase::BeforeTime => Ok(take_time(r, values)),
         Phase::BeforeBlocks => take_ratios(r, values, scan.count),
-        Phase::InBlock => Read {
-            refusal: 5,
-            reading: r,
-        },
+        Phase::InBlock => unreachable!(),
     }
 }
 
 // The values of a record of the open block, read without a fault: outside their limits they are refused by 7, else they are taken, or refused by 8.
 // The reading stays where it stands, and is not answered: such lines are most of a deck.
-pub fn take_item(r: Reading, item: usize, values: &[u64], scan: Scan, cards: &mut [u64]) -> u64
+pub fn take_item(
+    r: Reading,
+    item: usize,
+    values: &[u64],
+    scan: Scan,
+    cards: &mut [u64],
+) -> Result<(), Refusal>
     requires item_lt { (item < items) × Ready r cards.old × Due r.phase (time_is r.time) item cards.old }
     requires passed { Passed item (scanned_of values.now scan) }
     ensures { LineTaken r item (scanned_of values.now scan) (stays r result) cards.old cards.new }
 {
     if scan.outside {
-        return OUTSIDE;
+        return Err(Refusal::OutsideLimits);
     }
-    let time = r.time;
-    blocks::take_values(cards, item, values, scan.count, time.ordinates)
+    blocks::take_values(cards, item, values, scan.count, r.time.ordinates)
 }

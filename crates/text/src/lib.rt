@@ -111,12 +111,5 @@ pub fn write_told(out: &mut [u8], at: usize, word: &[u8], x: u64) -> usize
 pub fn trim_blanks(s: &[u8]) -> &[u8]
     ensures { result.now ≡ trim_end is_blank s.now }
 {
-    let mut n = s.len();
-    while 0 < n {
-        if s[n - 1] != b' ' {
-            return &s[..n];
-        }
-        n -= 1;
-    }
-    &s[..n]
+    slices::trim_end(s, b' ')
 }

@@ -5,6 +5,7 @@ use mathlib.Core.List.{List}
 use native.Mathlib.Omega.{arith}
 use lib.ListN.{length}
 use Rattle.sequences.specs.Parts.{part}
+use Rattle.refusals.specs.Numbers.{refusal_in}
 use Rattle.meaning.specs.Records.{table, row_of}
 use Rattle.records.specs.Rows.{items, words_of, start, room_of, most_in, span_in, next_start, span-by, most-by, most_fits, own_few}
 use Rattle.blocks.specs.Cards.{region_of}
@@ -88,7 +89,7 @@ returns c =
     let n = own_few x.item x.count (search rules) (search rules) in
     let t = c.take_in in
     rw (p.wide, p.begins)
-    (takes x.item x.nq x.count x.values.now x.cards.now (search rules) s.requires.1.1 (omega (arith, n)) s.requires.1.0 t.result t.new.region
+    (takes x.item x.nq x.count x.values.now x.cards.now (search rules) s.requires.1.1 (omega (arith, n)) s.requires.1.0 (refusal_in t.result) t.new.region
     (rw (q, k.own, k.bound) at t.ensures.0) (rw (q, k.own, k.bound) at t.ensures.1))
 
 pub take_values_spec : {M : Type 1} → statement M

@@ -1,25 +1,25 @@
--- The loop's end stays the end of the same run: what is left of the run from `i` on is what was left of it from `at` on.
-use native.Mathlib.Omega.{arith}
-use borrow.Author.Rules.{rules}
-use Rattle.sequences.specs.Choices.{in_range, below_range, above_range}
-use Rattle.sequences.specs.Runs.{run_more, run-stop, run_end}
+-- The first byte that is not plain ends the run.
+use Rattle.std.proofs.Common.{rules, tests, arith, ◌≡◌, ◌+◌, ◌∙◌, ap, not, length, drop}
+use Rattle.std.specs.Option.{unwrap_or}
+use Rattle.std.specs.List.{position}
+use Rattle.std.proofs.lemmas.Iterator.{YieldsList-from_slice}
+use Rattle.std.proofs.lemmas.Iterator.Search.{position_from_yields_List}
+use Rattle.sequences.specs.Runs.{run, run_at_within}
 use Rattle.lines.specs.Line.{is_plain}
+use Rattle.lines.specs.Plain.{first_other}
+use Rattle.lines.specs.Endings.{rest, rest_is}
+use Rattle.lines.proofs.plain_end.Goals.{After-unwrap_or}
 use Rattle.lines.proofs.plain_end.Goals as goal
 
-pub returns-then-b-lt32 : goal.returns-then-b-lt32
-returns-then-b-lt32 c =
-    let p = c in
-    omega (arith, run-stop is_plain p.args.s.now p.loop-i.i (search rules) (below_range 0x20 0x7E _ c.if-b-lt32.true))
+-- how many bytes pass
+count : (c : After-unwrap_or) → c.unwrap_or.result ≡ run is_plain (drop c.args.at c.args.s.now)
+count c =
+    let s = rest c.args.s.now c.args.at in
+    let found : c.position.result ≡ position (λ b. not (is_plain b)) s = position_from_yields_List (λ b. not (is_plain b)) _ _ c.position.result c.position.ensures.ran (YieldsList-from_slice _ c.iter.ensures.rest) (λ x b q k. search (rules, tests)) in
+    c.unwrap_or.ensures ∙ ap (λ o. unwrap_or o (length s)) found ∙ first_other is_plain s ∙ ap (run is_plain) (rest_is c.args.s.now c.args.at)
 
-pub returns-then-b-gt126 : goal.returns-then-b-gt126
-returns-then-b-gt126 c =
-    let p = c in
-    omega (arith, run-stop is_plain p.args.s.now p.loop-i.i (search rules) (above_range 0x20 0x7E _ c.if-b-gt126.true))
-
-pub loop-i-preserved : goal.loop-i-preserved
-loop-i-preserved c =
-    let p = c in
-    omega (arith, run_more is_plain p.args.s.now p.loop-i.i (search rules) (in_range 0x20 0x7E _ c.if-b-lt32.false c.if-b-gt126.false))
+pub overflow_add-result : goal.overflow_add-result
+overflow_add-result c = omega (arith, count c, run_at_within is_plain c.args.s.now c.args.at c.requires)
 
 pub returns : goal.returns
-returns c = omega (arith, run_end is_plain c.args.s.now c.loop-i.i (search rules))
+returns c = ap (λ n. c.args.at + n) (count c)

@@ -1,5 +1,4 @@
 -- By the form.
-use borrow.Author.Rules.{rules}
 use Rattle.scanning.proofs.blank_span.Goals as goal
 
 pub returns-then-free : goal.returns-then-free

@@ -1,5 +1,5 @@
 -- By the test.
-use borrow.Author.Tests.{lt-ltb, le-ltb}
+use Rattle.std.proofs.Common.{lt-ltb, le-ltb}
 use Rattle.meaning.specs.Words.{when◌then◌else◌}
 use Rattle.scanning.proofs.is_left.Goals as goal
 
@@ -7,6 +7,6 @@ pub returns-then-c-length : goal.returns-then-c-length
 unfolding when◌then◌else◌
 returns-then-c-length c = rw (lt-ltb _ _ c.if-c-length.true)
 
-pub returns : goal.returns
+pub returns-else-c-length : goal.returns-else-c-length
 unfolding when◌then◌else◌
-returns c = rw (le-ltb _ _ c.if-c-length.false)
+returns-else-c-length c = rw (le-ltb _ _ c.if-c-length.false)

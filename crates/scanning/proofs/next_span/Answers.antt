@@ -1,6 +1,5 @@
 -- A field of the line, or a blank one behind it.
 use borrow.Author.Tests.{lt-ltb, le-ltb}
-use borrow.Author.Rules.{rules}
 use Rattle.sequences.specs.Choices.{taken, passed}
 use Rattle.scanning.proofs.next_span.Goals as goal
 

@@ -1,14 +1,25 @@
 -- A field without bytes is blank and leaves the count.
-use native.Mathlib.Omega.{arith}
-use borrow.Author.Tests.{eq-eqb, ne_eqb}
+use Rattle.std.proofs.Common.{arith, eq-eqb, ne_eqb}
 use Rattle.meaning.specs.Words.{when◌then◌else◌}
-use borrow.Author.Rules.{rules}
 use Rattle.scanning.proofs.note.Goals as goal
+use Rattle.scanning.proofs.note.Goals.{then-length-gt0, else-length-gt0}
 
-pub returns-then-length-gt0 : goal.returns-then-length-gt0
+pub returns-then-scan : goal.returns-then-scan
 unfolding when◌then◌else◌
-returns-then-length-gt0 c = (rw (ne_eqb c.args.length 0 (λ e. absurd (omega arith))), c.either-flag.ensures)
+returns-then-scan c = (
+  elim c.if-length-gt0.branch [
+    | then-length-gt0 w ↦ rw (ne_eqb c.args.length 0 (λ e. absurd (omega arith))) w.result-is
+    | else-length-gt0 w ↦ rw (eq-eqb c.args.length 0 (omega arith)) w.result-is
+  ],
+  rw c.if-scan.true,
+)
 
-pub returns : goal.returns
+pub returns-else-scan : goal.returns-else-scan
 unfolding when◌then◌else◌
-returns c = (rw (eq-eqb c.args.length 0 (omega arith)), c.either-flag.ensures)
+returns-else-scan c = (
+  elim c.if-length-gt0.branch [
+    | then-length-gt0 w ↦ rw (ne_eqb c.args.length 0 (λ e. absurd (omega arith))) w.result-is
+    | else-length-gt0 w ↦ rw (eq-eqb c.args.length 0 (omega arith)) w.result-is
+  ],
+  rw c.if-scan.false,
+)

@@ -1,13 +1,11 @@
 -- A fault leaves all as it was; else what is kept is what the definition notes.
-use mathlib.Core.Path.{refl, sym}
-use mathlib.Core.Bool.{true≢false, false≢true}
+use Rattle.std.proofs.Common.{refl}
 use Rattle.records.specs.Rows.{rules_by}
 use Rattle.scanning.specs.Scans.{noted_by}
-use borrow.Author.Rules.{rules}
 use Rattle.scanning.proofs.note_field.Goals as goal
 
 pub returns-in-Faulty : goal.returns-in-Faulty
-returns-in-Faulty c = record { faulty_value = sym (rw c.in-Faulty.is at c.field_at.ensures); scan_after = λ z. absurd (true≢false z); scan_after_2 = λ z. refl }
+returns-in-Faulty c = (rw c.in-Faulty.is at c.field_at.ensures, refl, refl)
 
 pub returns-in-Value : goal.returns-in-Value
 returns-in-Value c =
@@ -20,4 +18,4 @@ returns-in-Value c =
     c.note.ensures.1
     e.1
     e.2 in
-    record { faulty_value = sym e.0; scan_after = λ z. done; scan_after_2 = λ z. absurd (false≢true z) }
+    (e.0, done)

@@ -1,47 +1,53 @@
--- From the last byte to the first: after each turn x is the number that the bytes from i on hold.
-use Prim.Native.Nat.{suc, ◌+◌, ◌-◌, ◌^◌, ◌≤◌, ◌<◌}
-use mathlib.Core.Path.{◌≡◌, sym, ap, ◌∙◌}
+-- From the last byte to the first: x is the number that the bytes behind the rest hold.
+use Prim.Native.Nat.{ℕ, ◌<◌, ◌≤◌}
+use Rattle.std.specs.declared.iter.Rev.{Rev}
+use mathlib.Core.Path.{◌≡◌, refl, sym, ap, ◌∙◌}
+use mathlib.Core.List.{List, [], ◌∷◌, ◌++◌}
 use native.Mathlib.Omega.{arith}
-use lib.ListN.{length, drop, get_or}
-use lib.Seq.{drop-length}
-use Rattle.slices.specs.Bytes.{from_little_endian, value_front, few_bytes, byte_more}
+use lib.ListN.{length}
+use Rattle.std.proofs.Common.{Iter, append-nil, append_assoc, length-append}
+use Rattle.slices.specs.Bytes.{from_little_endian, few_bytes, byte_more}
 use Rattle.slices.proofs.read_le.Goals as goal
 
-pub loop-i-init : goal.loop-i-init
-loop-i-init c =
-    let s = c.args.s.now in
-    let none : length s - length s ≡ 0 = omega arith in
-    (omega arith, ap from_little_endian (sym (drop-length s)), rw none (omega arith))
+pub loop-byte-init : goal.loop-byte-init
+loop-byte-init c =
+    let source = ap (λ (i : Iter ℕ). i.rest.now) (ap (λ (r : Rev (Iter ℕ)). r.iter) c.into_iter-byte-iterator.ensures.into_iter_gives ∙ c.rev-byte-items.ensures.source) ∙ c.iter.ensures.rest in
+    ([], sym (append-nil _ ∙ source), refl, omega arith)
+
+-- What is read has at most seven bytes where a byte stands before it.
+few : (s all rest read : List ℕ) (b : ℕ) → s ≡ all ++ read → all ≡ rest ++ (b ∷ []) → length s ≤ 8 → length read ≤ 7
+few s all rest read b e h k = omega (arith, k, ap length e, length-append all read, ap length h, length-append rest (b ∷ []))
 
 pub overflow_mul-x : goal.overflow_mul-x
 overflow_mul-x c =
-    let l = c.loop-i in
-    omega (arith, few_bytes (length c.args.s.now - l.i) l.x l.invariant.2 (omega arith))
-
-pub overflow_cast-x : goal.overflow_cast-x
-overflow_cast-x c = omega (arith, c.shared_slice_known-1.given (c.loop-i.i - 1))
+    let read = c.loop-byte.invariant in
+    omega (arith, few_bytes (length read.0) c.loop-byte.x read.3 (few _ _ _ read.0 _ read.1 c.in-Some.ensures.steps c.requires))
 
 pub overflow_add-x : goal.overflow_add-x
 overflow_add-x c =
-    let l = c.loop-i in
-    let k = length c.args.s.now - l.i in
-    omega (arith, few_bytes k l.x l.invariant.2 (omega arith), c.shared_slice_known-1.given (l.i - 1))
+    let read = c.loop-byte.invariant in
+    omega (arith, few_bytes (length read.0) c.loop-byte.x read.3 (few _ _ _ read.0 _ read.1 c.in-Some.ensures.steps c.requires))
 
-pub loop-i-preserved : goal.loop-i-preserved
-loop-i-preserved c =
-    let l = c.loop-i in
-    let s = c.args.s.now in
-    let i : l.i - 1 + 1 ≡ l.i = omega arith in
-    let h : l.i - 1 < length s = omega arith in
-    let k : length s - (l.i - 1) ≡ suc (length s - l.i) = omega arith in
-    let byte : get_or s (l.i - 1) 0 < 256 = omega (arith, c.shared_slice_known-1.given (l.i - 1)) in (
-      omega arith,
-      sym (value_front s (l.i - 1) h ∙ rw (i, l.invariant.1)),
-      rw k (byte_more (length s - l.i) l.x (get_or s (l.i - 1) 0) l.invariant.2 byte),
+pub loop-byte-preserved : goal.loop-byte-preserved
+loop-byte-preserved c =
+    let l = c.loop-byte in
+    let read = l.invariant in
+    let byte = c.in-Some.field-0.now in
+    let small : byte < 256 = omega arith in (
+      byte ∷ read.0,
+      read.1 ∙ ap (λ (s : List ℕ). s ++ read.0) c.in-Some.ensures.steps ∙ append_assoc c.next.new.self.iter.rest.now (byte ∷ []) read.0,
+      omega (arith, read.2),
+      byte_more (length read.0) l.x byte read.3 small,
     )
+
+-- Where no byte is left, all are read.
+all_read : (s rest read : List ℕ) → s ≡ rest ++ read → length rest ≡ 0 → read ≡ s
+all_read s [] read e h = sym e
+all_read s (b ∷ rest) read e h = absurd (omega arith)
 
 pub returns : goal.returns
 returns c =
-    let l = c.loop-i in
-    let none : l.i ≡ 0 = omega arith in
-    let all : length c.args.s.now - l.i ≡ length c.args.s.now = omega arith in record { number = l.invariant.1 ∙ rw none; small = rw all at l.invariant.2 }
+    let l = c.loop-byte in
+    let read = l.invariant in
+    let all = all_read _ _ read.0 read.1 c.in-None.ensures.steps.0 in
+    record { number = read.2 ∙ ap from_little_endian all; small = rw all at read.3 }
