@@ -102,9 +102,9 @@ fn step(
     let r = got.reading;
     let asked = Asked { named, place };
     match got.event {
-        Event::Opened => {
+        Event::Opened(name) => {
             let closed = close_open(r, s.held, s.blocks, asked, work, ordinates, records, cards);
-            let next = turns::open_next(s, r, got.name, got.at, line, closed, cards)?;
+            let next = turns::open_next(s, r, name, got.at, line, closed, cards)?;
             Ok(Turn::GoesOn(next))
         }
         Event::Ended => {
@@ -120,10 +120,7 @@ fn step(
             )?;
             Ok(Turn::Ended(worked))
         }
-        Event::Refused(_number) => Err(Refused {
-            refusal: Refusal::LittleWork,
-            line,
-        }),
+        Event::Refused(refusal) => Err(Refused { refusal, line }),
         Event::Missing => Err(Refused {
             refusal: Refusal::NoLastLine,
             line: 0,

@@ -10,7 +10,7 @@ close_open-closed-requires c =
     let r = c.read_on-got in
     let f = rw c.in-Opened.is at r.ensures.found in
     let o = rw c.in-Opened.is at r.ensures.onward in
-    may_close _ _ _ _ _ _ _ _ _ _ c.requires _ _ _ _ _ f o.ready
+    may_close _ _ _ _ _ _ _ _ _ _ c.requires _ _ _ _ _ f o.0.ready
 
 pub close_open-closed-requires-in-Ended : goal.close_open-closed-requires-in-Ended
 close_open-closed-requires-in-Ended c =
@@ -26,8 +26,8 @@ returns-in_ok-next-in-Opened c =
     let f = rw c.in-Opened.is at r.ensures.found in
     let o = rw c.in-Opened.is at r.ensures.onward in
     let turn =
-    kk_turn _ _ _ _ _ _ _ _ _ _ c.requires _ _ r.result.at r.new.cards o.ready k.result _ _ _ k.ensures k.auto.work k.auto.ordinates k.auto.records
-    _ f o.within o.counted o.forth _ c.open_next.result c.open_next.ensures in
+    kk_turn _ _ _ _ _ _ _ _ _ _ c.requires _ _ r.result.at r.new.cards o.0.ready k.result _ _ _ k.ensures k.auto.work k.auto.ordinates k.auto.records
+    c.in-Opened.name f o.0.within o.0.counted o.0.forth _ c.open_next.result c.open_next.ensures in
     rw c.in_ok-next-in-Opened.was at turn
 
 pub returns-in_ok-worked-in-Ended : goal.returns-in_ok-worked-in-Ended
@@ -53,10 +53,11 @@ returns-in_err-next-in-Opened c =
     let f = rw c.in-Opened.is at r.ensures.found in
     let o = rw c.in-Opened.is at r.ensures.onward in
     let turn =
-    kk_turn _ _ _ _ _ _ _ _ _ _ c.requires _ _ r.result.at r.new.cards o.ready k.result _ _ _ k.ensures k.auto.work k.auto.ordinates k.auto.records
-    _ f o.within o.counted o.forth _ c.open_next.result c.open_next.ensures in
+    kk_turn _ _ _ _ _ _ _ _ _ _ c.requires _ _ r.result.at r.new.cards o.0.ready k.result _ _ _ k.ensures k.auto.work k.auto.ordinates k.auto.records
+    c.in-Opened.name f o.0.within o.0.counted o.0.forth _ c.open_next.result c.open_next.ensures in
     let told = rw c.in_err-next-in-Opened.was at turn in
-    ?
+    let is : c.from_residual.result ≡ Err c.in_err-next-in-Opened.field-0.0 = search rules in
+    rw is told
 
 pub returns-in_err-worked-in-Ended : goal.returns-in_err-worked-in-Ended
 returns-in_err-worked-in-Ended c =
@@ -70,3 +71,8 @@ returns-in_err-worked-in-Ended c =
     let told = rw c.in_err-worked-in-Ended.was at turn in
     let is : c.from_residual-in_err-worked-in-Ended.result ≡ Err c.in_err-worked-in-Ended.field-0.0 = search rules in
     rw is told
+
+pub returns-in-Refused : goal.returns-in-Refused
+returns-in-Refused c =
+    let f = rw c.in-Refused.is at c.read_on-got.ensures.found in
+    (sym c.requires.walked ∙ walk_refused _ _ _ _ _ _ f.0 _ f.1 f.2, found-counted _ _ _ _ _ _ _ _ _ _ c.requires _ f.2 refl)
