@@ -3,7 +3,7 @@
 --     kind_by_none   none, where their number is that of no set
 --     kind_told      no two kinds mean the same
 --     kind_must      a record that every set of a kind must have is there
-use Rattle.std.specs.Prelude.{ℕ, zero, suc, ◌+◌, ◌<◌, ◌≡◌, refl, Bool, true, false, ◌&&◌, List, [], ◌∷◌, ◌++◌, length, get_or}
+use Rattle.std.specs.Prelude.{ℕ, zero, suc, ◌+◌, ◌<◌, ◌≡◌, refl, Bool, true, false, ◌&&◌, List, [], ◌∷◌, ◌++◌, length, get_or, Option, Some, None}
 use Rattle.std.proofs.Common.{sym, ◌∙◌, ap, arith, eq-eqb, ne_eqb}
 use Rattle.sequences.specs.Choices.{both_hold, both_fail}
 use Rattle.meaning.specs.Words.{◌=?◌, when◌then◌else◌}
@@ -15,35 +15,35 @@ use Rattle.blocks.specs.Cards.{block_of}
 use Rattle.blocks.specs.Values.{block_long}
 use Rattle.kinds.specs.Masks.{mask_of, masks, among-append, agrees_mask}
 use Rattle.kinds.specs.declared.Kind.{Kind}
-use Rattle.kinds.specs.declared.Kind.TheVariants.{NoKind, Basin, Inflow, Confluence, Reach, Pond}
+use Rattle.kinds.specs.declared.Kind.TheVariants.{Basin, Inflow, Confluence, Reach, Pond}
 
-abbrev pub kind_meant : Kind → blocks.Kind
-kind_meant NoKind = blocks.NoKind
-kind_meant Basin = blocks.Basin
-kind_meant Inflow = blocks.Inflow
-kind_meant Confluence = blocks.Confluence
-kind_meant Reach = blocks.Reach
-kind_meant Pond = blocks.Pond
+abbrev pub kind_meant : Option Kind → blocks.Kind
+kind_meant None = blocks.NoKind
+kind_meant (Some Basin) = blocks.Basin
+kind_meant (Some Inflow) = blocks.Inflow
+kind_meant (Some Confluence) = blocks.Confluence
+kind_meant (Some Reach) = blocks.Reach
+kind_meant (Some Pond) = blocks.Pond
 
 -- no two kinds mean the same
-meant_back : blocks.Kind → Kind
-meant_back blocks.NoKind = NoKind
-meant_back blocks.Basin = Basin
-meant_back blocks.Inflow = Inflow
-meant_back blocks.Confluence = Confluence
-meant_back blocks.Reach = Reach
-meant_back blocks.Pond = Pond
+meant_back : blocks.Kind → Option Kind
+meant_back blocks.NoKind = None
+meant_back blocks.Basin = Some Basin
+meant_back blocks.Inflow = Some Inflow
+meant_back blocks.Confluence = Some Confluence
+meant_back blocks.Reach = Some Reach
+meant_back blocks.Pond = Some Pond
 
-meant-back : (k : Kind) → k ≡ meant_back (kind_meant k)
+meant-back : (k : Option Kind) → k ≡ meant_back (kind_meant k)
 unfolding meant_back
-meant-back NoKind = refl
-meant-back Basin = refl
-meant-back Inflow = refl
-meant-back Confluence = refl
-meant-back Reach = refl
-meant-back Pond = refl
+meant-back None = refl
+meant-back (Some Basin) = refl
+meant-back (Some Inflow) = refl
+meant-back (Some Confluence) = refl
+meant-back (Some Reach) = refl
+meant-back (Some Pond) = refl
 
-pub kind_told : (x y : Kind) → kind_meant x ≡ kind_meant y → x ≡ y
+pub kind_told : (x y : Option Kind) → kind_meant x ≡ kind_meant y → x ≡ y
 kind_told x y e = meant-back x ∙ rw e (sym (meant-back y))
 
 abbrev pub kind_at : List Set → ℕ → blocks.Kind

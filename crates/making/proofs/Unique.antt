@@ -12,6 +12,7 @@ one_storm_of κs a x y e f p q = p [] ∙ sym (q [])
 
 pub one_make : Once make.ps make.r make-says.Post (λ κs x y e f. (x ≡ y) × (e.0.now ≡ f.0.now))
 one_make κs a x y e f p q =
-    let held = (p []).makes.stack ∙ sym (q []).makes.stack in
-    let over = (p []).over ∙ sym (q []).over in
-    (rw (held, over), (p []).makes.words ∙ sym (q []).makes.words)
+    let one = p [] in
+    let other = q [] in
+    let next = one.makes.stack ∙ sym other.makes.stack in
+    (one.answer ∙ rw next (sym other.answer), one.makes.words ∙ sym other.makes.words)

@@ -2,21 +2,24 @@
 --     HeldWithin           what is asked of what is held before
 --     stack_by, words_by     what the stack and the work words are then, for each kind
 --     Makes                the outcome, with makes_by: how it comes about
---     MakesAll             the same with whether a pool rose above its last row; a block that is no pond has none (all_dry)
-use Rattle.std.specs.Prelude.{ℕ, ◌-◌, ◌*◌, ◌≤◌, ◌≡◌, false, List, length}
-use Rattle.std.proofs.Common.{sym, ◌∙◌}
+--     MakesAll             the same with what is answered: 20 where a pool rose above its last row. How it comes about: all_by, and all_dry of a block that is no pond;
+--                          and what it tells: made_held, made_risen
+use Rattle.std.specs.Prelude.{ℕ, ◌-◌, ◌*◌, ◌≤◌, ◌≡◌, refl, Bool, true, false, List, length, Result, Ok, Err}
+use Rattle.std.proofs.Common.{sym, ap, ◌∙◌, arith}
 use Rattle.sequences.specs.Parts.{part, put}
 use Rattle.meaning.specs.Water.{inflow_of, routed_of}
 use Rattle.meaning.specs.Pool.{ponded_of}
 use Rattle.meaning.specs.Blocks.{Time, Block, Kind, NoKind, Basin, Inflow, Confluence, Reach, Pond, kind_of, Held, total, basin_area, combined, inflow_values, reach_steps, reach_k, reach_x, pond_rows, overtops_by, overtops}
 use Rattle.meaning.specs.Run.{taken_by, held_after}
 use Rattle.meaning.specs.Records.{most_ordinates}
+use Rattle.refusals.specs.declared.Refusal.{Refusal}
+use Rattle.refusals.specs.declared.Refusal.TheVariants as refusal
+use Rattle.refusals.specs.Numbers.{refusal_in, some_number}
 use Rattle.stack.specs.declared.Stack.{Stack}
 use Rattle.stack.specs.View.{Fits, view, pushed}
 use Rattle.stack.specs.Joining.{joined_stack, joined_all_words}
 use Rattle.stack.specs.Limits.{Within}
 use Rattle.stack.specs.Kinds.{block_runoff}
-use Rattle.making.specs.declared.Made.{Made}
 
 -- all that is held is within its limits; 199 blocks of the largest area may have been closed
 pub record HeldWithin (s : Stack) (nq : ℕ) (w : List ℕ) : Type 0 where
@@ -56,13 +59,41 @@ pub over_by_lem : (τ : Time) (b : Block) (h : Held) {k : Kind} → kind_of b �
 unfolding overtops
 over_by_lem τ b h e = rw e
 
-abbrev pub made_dry : Stack → Made
-made_dry s = record { held = s; overtopped = false }
+-- what is answered of a hydrograph that is made: what is held then, or 20 where a pool rose above its last row
+abbrev pub made_by : (risen : Bool) → Stack → Result Stack Refusal
+made_by true s = Err refusal.Overtopped
+made_by false s = Ok s
 
-pub record MakesAll (τ : Time) (b : Block) (s : Stack) (w : List ℕ) (r : Made) (w' : List ℕ) : Type 0 where
-  pub makes : Makes τ b s w r.held w'
-  pub over : r.overtopped ≡ overtops τ b (taken_by b (view s τ.ordinates w))
+abbrev pub made_dry : Stack → Result Stack Refusal
+made_dry s = made_by false s
 
-pub all_dry : (τ : Time) (b : Block) (s : Stack) (w : List ℕ) {k : Kind} {next : Stack} {r : Made} {w' : List ℕ} → kind_of b ≡ k
-    → overtops_by k τ b (taken_by b (view s τ.ordinates w)) ≡ false → Makes τ b s w next w' → r ≡ made_dry next → MakesAll τ b s w r w'
-all_dry τ b s w e none m f = rw f (record { makes = m; over = sym (over_by_lem τ b (taken_by b (view s τ.ordinates w)) e ∙ none) })
+pub record MakesAll (τ : Time) (b : Block) (s : Stack) (w : List ℕ) (r : Result Stack Refusal) (w' : List ℕ) : Type 0 where
+  pub next : Stack
+  pub makes : Makes τ b s w next w'
+  pub answer : r ≡ made_by (overtops τ b (taken_by b (view s τ.ordinates w))) next
+
+module _ (τ : Time) (b : Block) (s : Stack) (w : List ℕ) {k : Kind} {next : Stack} {w' : List ℕ} (e : kind_of b ≡ k) where
+  -- by whether a pool rose above its last row,
+  pub all_by : (risen : Bool) → risen ≡ overtops_by k τ b (taken_by b (view s τ.ordinates w)) → Makes τ b s w next w' → MakesAll τ b s w (made_by risen next) w'
+  all_by risen is m =
+      record { next = next; makes = m; answer = ap (λ (t : Bool). made_by t next) (is ∙ sym (over_by_lem τ b (taken_by b (view s τ.ordinates w)) e)) }
+
+  -- and of a block that is no pond none can
+  pub all_dry : overtops_by k τ b (taken_by b (view s τ.ordinates w)) ≡ false → Makes τ b s w next w' → MakesAll τ b s w (made_dry next) w'
+  all_dry none m = all_by false (sym none) m
+
+-- What is told of it: it is held, or 20 is met.
+held_by : (risen : Bool) (h next : Stack) → Ok h ≡ made_by risen next → (h ≡ next) × (risen ≡ false)
+held_by true h next e = absurd (omega (arith, ap refusal_in e))
+held_by false h next e = (cc, refl)
+
+risen_by : (risen : Bool) (x : Refusal) (next : Stack) → Err x ≡ made_by risen next → (x ≡ refusal.Overtopped) × (risen ≡ true)
+risen_by true x next e = (cc, refl)
+risen_by false x next e = absurd (some_number x (ap refusal_in e))
+
+module _ {τ : Time} {b : Block} {s : Stack} {w w' : List ℕ} where
+  pub made_held : {h : Stack} → MakesAll τ b s w (Ok h) w' → Makes τ b s w h w' × (overtops τ b (taken_by b (view s τ.ordinates w)) ≡ false)
+  made_held m = let told = held_by _ _ m.next m.answer in (rw told.0 m.makes, told.1)
+
+  pub made_risen : {x : Refusal} → MakesAll τ b s w (Err x) w' → (x ≡ refusal.Overtopped) × (overtops τ b (taken_by b (view s τ.ordinates w)) ≡ true)
+  made_risen m = risen_by _ _ m.next m.answer

@@ -1,21 +1,20 @@
 // The hydrograph of a block that its shape does not refuse, made in the work words and held: a function for each kind.
 #![tactic(auto)]
 
-ghost use Rattle.std.specs.Prelude.{◌≡◌, List, [], ℕ};
-ghost use Rattle.meaning.specs.Blocks.{Basin, Inflow, Confluence, Reach, Pond, basin_area, overtops};
-ghost use Rattle.meaning.specs.Run.{taken_by};
+ghost use Rattle.std.specs.Prelude.{◌≡◌, List, [], ℕ, Some};
+ghost use Rattle.meaning.specs.Blocks.{Basin, Inflow, Confluence, Reach, Pond, basin_area};
 ghost use Rattle.blocks.specs.Meant.{time_is};
 ghost use Rattle.blocks.specs.Cards.{block_of, Readable};
 ghost use Rattle.kinds.specs.Kinds.{kind_meant};
-ghost use Rattle.stack.specs.View.{view};
 ghost use Rattle.stack.specs.Kinds.{block_loss, block_total, block_storm};
 ghost use Rattle.shaping.specs.Limits.{CardsWithin, Read};
 ghost use Rattle.shaping.specs.Shapes.{Shaped};
-ghost use Rattle.making.specs.Made.{HeldWithin, Makes, MakesAll, made_dry};
+ghost use Rattle.making.specs.Made.{HeldWithin, Makes, MakesAll};
 
 use blocks::Time;
 use excess::{Loss, Storm, Total};
 use kinds::Kind;
+use refusals::Refusal;
 use stack::Stack;
 
 // The area of a basin or an inflow; a block without BA has none.
@@ -118,51 +117,40 @@ fn make_reach(work: &mut [u64], held: Stack, time: Time, cards: &[u64]) -> Stack
     held
 }
 
-// A pond: the last held goes through its pool. It answers whether the pool rose above the last row of its table.
-fn make_pond(work: &mut [u64], held: Stack, time: Time, cards: &[u64]) -> bool
+// A pond: the last held goes through its pool. It is refused where the pool rises above the last row of its table.
+fn make_pond(work: &mut [u64], held: Stack, time: Time, cards: &[u64]) -> Result<Stack, Refusal>
     requires held_within { HeldWithin held time.ordinates work.old }
     requires read { Read (time_is time) cards.now }
     requires by_index { (name : List ℕ) → Shaped Pond (time_is time) (block_of name cards.now) held.depth }
-    ensures by_index_2 { (name : List ℕ) → result ≡ overtops (time_is time) (block_of name cards.now) (taken_by (block_of name cards.now) (view held time.ordinates work.old)) }
-    ensures made { (name : List ℕ) → Makes (time_is time) (block_of name cards.now) held work.old held work.new }
+    ensures { (name : List ℕ) → MakesAll (time_is time) (block_of name cards.now) held work.old result work.new }
 {
     let svs = blocks::values(cards, records::SV);
     let sqs = blocks::values(cards, records::SQ);
-    stack::pond_last(work, held, time.ordinates, time.minutes, svs, sqs)
-}
-
-// What is held then, and whether a pool rose above the last row of its table.
-#[derive(Clone, Copy)]
-pub struct Made {
-    pub held: Stack,
-    pub overtopped: bool,
-}
-
-// No pool rose: the block is no pond.
-fn dry(held: Stack) -> Made
-    ensures { result ≡ made_dry held }
-{
-    Made {
-        held,
-        overtopped: false,
+    let overtopped = stack::pond_last(work, held, time.ordinates, time.minutes, svs, sqs);
+    if overtopped {
+        return Err(Refusal::Overtopped);
     }
+    Ok(held)
 }
 
-pub fn make(work: &mut [u64], held: Stack, time: Time, cards: &[u64], kind: Kind) -> Made
+// What is held then. The kind is the block's own.
+pub fn make(
+    work: &mut [u64],
+    held: Stack,
+    time: Time,
+    cards: &[u64],
+    kind: Kind,
+) -> Result<Stack, Refusal>
     requires held_within { HeldWithin held time.ordinates work.old }
     requires read { Read (time_is time) cards.now }
-    requires by_index { (name : List ℕ) → Shaped (kind_meant kind) (time_is time) (block_of name cards.now) held.depth }
+    requires by_index { (name : List ℕ) → Shaped (kind_meant (Some kind)) (time_is time) (block_of name cards.now) held.depth }
     ensures { (name : List ℕ) → MakesAll (time_is time) (block_of name cards.now) held work.old result work.new }
 {
     match kind {
-        Kind::NoKind => dry(held),
-        Kind::Basin => dry(make_basin(work, held, time, cards)),
-        Kind::Inflow => dry(make_inflow(work, held, time, cards)),
-        Kind::Confluence => dry(make_confluence(work, held, time, cards)),
-        Kind::Reach => dry(make_reach(work, held, time, cards)),
-        Kind::Pond => {
-            let overtopped = make_pond(work, held, time, cards);
-            Made { held, overtopped }
-        }
+        Kind::Basin => Ok(make_basin(work, held, time, cards)),
+        Kind::Inflow => Ok(make_inflow(work, held, time, cards)),
+        Kind::Confluence => Ok(make_confluence(work, held, time, cards)),
+        Kind::Reach => Ok(make_reach(work, held, time, cards)),
+        Kind::Pond => make_pond(work, held, time, cards),
     }
 }

@@ -1,9 +1,10 @@
 -- The paper's number of each refusal.
 --     refusal_number    the number
 --     refusal_in        that of what came back: 0 where nothing is refused
+--     some_number       no refusal has the number 0; same_result: two that say the same are one
 --     in_order          all of them; named_by: the refusal of a number; same_number: two with one number are one
 use Rattle.std.specs.Prelude.{◌≡◌, refl, List, [], ◌∷◌, ℕ, ◌-◌, get_or, Result, Ok, Err}
-use Rattle.std.proofs.Common.{sym, ap, ◌∙◌}
+use Rattle.std.proofs.Common.{sym, ap, ◌∙◌, arith}
 use Rattle.refusals.specs.declared.Refusal.{Refusal}
 use Rattle.refusals.specs.declared.Refusal.TheVariants as refusal
 
@@ -64,3 +65,13 @@ named_back refusal.Overtopped = refl
 
 pub same_number : (x y : Refusal) → refusal_number x ≡ refusal_number y → x ≡ y
 same_number x y h = sym (named_back x) ∙ ap named_by h ∙ named_back y
+
+pub some_number : (x : Refusal) → refusal_number x ≡ 0 → ⊥
+some_number x h = let first : x ≡ refusal.LittleWork = sym (named_back x) ∙ ap named_by h in omega (arith, h, ap refusal_number first)
+
+-- where nothing is refused in either, what came back is still to be compared
+pub same_result : {T : Type 0} (x y : Result T Refusal) → refusal_in x ≡ refusal_in y → ((a b : T) → x ≡ Ok a → y ≡ Ok b → a ≡ b) → x ≡ y
+same_result (Ok a) (Ok b) h same = ap Ok (same a b refl refl)
+same_result (Ok a) (Err s) h same = absurd (some_number s (sym h))
+same_result (Err r) (Ok b) h same = absurd (some_number r h)
+same_result (Err r) (Err s) h same = ap Err (same_number r s h)

@@ -1,8 +1,8 @@
 -- Refusals 9, 18, 10, 11 and 12 or 19 of a block that closes.
 --     refusal_by       by the tests and the numbers that they look at
---     ShapeIs         the shape of a block, with shape_found, shape_refused and shape_sound: how it comes about
+--     ShapeIs         the shape of a block, with shape_kindless, shape_patternless, shape_without_room, shape_broken and shape_sound: how it comes about
 --     Shaped          a block of a kind that none of them refuses, with what that says of how many are held, of a reach and of a pond
-use Rattle.std.specs.Prelude.{ℕ, zero, suc, ◌+◌, ◌-◌, ◌≤◌, ◌<◌, ◌≡◌, refl, Bool, length}
+use Rattle.std.specs.Prelude.{ℕ, zero, suc, ◌+◌, ◌-◌, ◌≤◌, ◌<◌, ◌≡◌, refl, Bool, false, length, Some, None, Result, Ok, Err, IfOk}
 use Rattle.std.proofs.Common.{sym, ap, ◌∙◌, arith, ltb-false, leb-false}
 use Rattle.sequences.specs.Refusals.{neither_met, not_met}
 use Rattle.meaning.specs.Words.{◌=?◌, ◌≤?◌, ◌<?◌, when◌then◌else◌, met, first}
@@ -14,7 +14,11 @@ use Rattle.meaning.specs.Blocks.{Time, Block, NoKind, Reach, Pond, kind_number, 
 use Rattle.meaning.specs.Run.{shape_refusal, depth_after}
 use Rattle.limits.specs.Within.{TimeWithin}
 use Rattle.kinds.specs.Kinds.{kind_meant, kind_must}
+use Rattle.refusals.specs.declared.Refusal.{Refusal}
+use Rattle.refusals.specs.declared.Refusal.TheVariants as refusal
+use Rattle.refusals.specs.Numbers.{refusal_number, refusal_in, some_number}
 use Rattle.kinds.specs.declared.Kind.{Kind}
+use Rattle.kinds.specs.declared.Kind.TheVariants as kinds
 use Rattle.routing.specs.Soundness as routing
 use Rattle.pond.specs.Tables.{PondTable}
 use Rattle.shaping.specs.Limits.{CardsWithin, reach_small}
@@ -38,33 +42,67 @@ shape_by : (τ : Time) (b : Block) (held : ℕ) {k : blocks.Kind} → kind_of b 
 unfolding shape_refusal
 shape_by τ b held e = rw (takes-by b e, broken-by τ b e, e)
 
--- THE SHAPE. A refusal leaves as many held as there were.
-abbrev pub after_shape : (refusal : ℕ) → Block → ℕ → ℕ
-after_shape zero b held = depth_after b held
-after_shape (suc n) b held = held
+-- THE SHAPE
+pub record ShapeIs (τ : Time) (b : Block) (held : ℕ) (r : Result Shape Refusal) : Type 0 where
+  pub number : refusal_in r ≡ shape_refusal τ b held
+  pub kind : IfOk r (λ s. kind_meant (Some s.kind) ≡ kind_of b)
+  pub after : IfOk r (λ s. s.after ≡ depth_after b held)
 
-pub record ShapeIs (τ : Time) (b : Block) (held : ℕ) (r : Shape) : Type 0 where
-  pub number : r.refusal ≡ shape_refusal τ b held
-  pub kind : kind_meant r.kind ≡ kind_of b
-  pub after : r.after ≡ after_shape r.refusal b held
+-- a block without a kind
+pub shape_kindless : (τ : Time) (b : Block) (held : ℕ) → kind_meant None ≡ kind_of b → ShapeIs τ b held (Err refusal.NoKind)
+shape_kindless τ b held e = record { number = sym (shape_by τ b held (sym e)); kind = tt; after = tt }
 
-kept-after : (n : ℕ) (b : Block) (held : ℕ) → (n ≡ 0 → ⊥) → held ≡ after_shape n b held
-kept-after zero b held some = absurd (some refl)
-kept-after (suc n) b held some = refl
+some_kind : (kind : Kind) → (kind_number (kind_meant (Some kind)) =? 0) ≡ false
+some_kind kinds.Basin = refl
+some_kind kinds.Inflow = refl
+some_kind kinds.Confluence = refl
+some_kind kinds.Reach = refl
+some_kind kinds.Pond = refl
 
-module _ (τ : Time) (b : Block) (held : ℕ) (kind : Kind) (e : kind_meant kind ≡ kind_of b) where
-  -- from what was found of the block
-  pub shape_found : (is_kindless is_patternless : Bool) (taken breach : ℕ) → is_kindless ≡ (kind_number (kind_meant kind) =? 0)
-      → is_patternless ≡ patternless τ b → taken ≡ takes_by (kind_meant kind) b → breach ≡ broken_by (kind_meant kind) τ b
-      → refusal_by is_kindless is_patternless taken held breach ≡ shape_refusal τ b held
-  shape_found is_kindless is_patternless taken breach n p t w = rw (n, p, t, w) (sym (shape_by τ b held (sym e)))
+first_kept : (m n : ℕ) → (m ≡ 0 → ⊥) → m ≡ first m n
+first_kept zero n some = absurd (some refl)
+first_kept (suc m) n some = refl
 
-  pub shape_refused : (n after : ℕ) → n ≡ shape_refusal τ b held → (n ≡ 0 → ⊥) → after ≡ held → ShapeIs τ b held (record { refusal = n; kind = kind; after = after })
-  shape_refused n after h some a = record { number = h; kind = e; after = a ∙ kept-after n b held some }
+first_of_three : (m n k : ℕ) → first m (first n k) ≡ first (first m n) k
+first_of_three zero n k = refl
+first_of_three (suc m) n k = refl
 
-  pub shape_sound : (after : ℕ) → 0 ≡ shape_refusal τ b held → after ≡ held - takes_by (kind_meant kind) b + 1
-      → ShapeIs τ b held (record { refusal = 0; kind = kind; after = after })
-  shape_sound after h a = record { number = h; kind = e; after = a ∙ ap (λ (n : ℕ). held - n + 1) (sym (takes-by b (sym e))) }
+-- one of a kind: the refusals behind 9, by what was found of it
+module _ (τ : Time) (b : Block) (held : ℕ) (kind : Kind) (e : kind_meant (Some kind) ≡ kind_of b) where
+  abbrev taken : ℕ
+  taken = takes_by (kind_meant (Some kind)) b
+
+  abbrev broken_parts : ℕ
+  broken_parts = broken_by (kind_meant (Some kind)) τ b
+
+  abbrev no_room : ℕ
+  no_room = first (met (held <? taken) 10) (met (20 ≤? (held - taken)) 11)
+
+  chain : shape_refusal τ b held ≡ first (met (patternless τ b) 18) (first no_room broken_parts)
+  chain =
+      shape_by τ b held (sym e)
+      ∙ rw (some_kind kind) (ap (first (met (patternless τ b) 18)) (first_of_three (met (held <? taken) 10) (met (20 ≤? (held - taken)) 11) broken_parts))
+
+  pub shape_patternless : (x : Refusal) → refusal_number x ≡ met (patternless τ b) 18 → ShapeIs τ b held (Err x)
+  shape_patternless x h =
+      record { number = h ∙ first_kept _ (first no_room broken_parts) (λ z. some_number x (h ∙ z)) ∙ sym chain; kind = tt; after = tt }
+
+  module _ (pattern : 0 ≡ met (patternless τ b) 18) where
+    behind : shape_refusal τ b held ≡ first no_room broken_parts
+    behind = chain ∙ ap (λ (n : ℕ). first n (first no_room broken_parts)) (sym pattern)
+
+    pub shape_without_room : (x : Refusal) → refusal_number x ≡ no_room → ShapeIs τ b held (Err x)
+    shape_without_room x h = record { number = h ∙ first_kept no_room broken_parts (λ z. some_number x (h ∙ z)) ∙ sym behind; kind = tt; after = tt }
+
+    module _ (room : 0 ≡ no_room) where
+      whole : shape_refusal τ b held ≡ broken_parts
+      whole = behind ∙ ap (λ (n : ℕ). first n broken_parts) (sym room)
+
+      pub shape_broken : (x : Refusal) → refusal_number x ≡ broken_parts → ShapeIs τ b held (Err x)
+      shape_broken x h = record { number = h ∙ sym whole; kind = tt; after = tt }
+
+      pub shape_sound : (after : ℕ) → after ≡ held - taken + 1 → 0 ≡ broken_parts → ShapeIs τ b held (Ok (record { kind = kind; after = after }))
+      shape_sound after a h = record { number = h ∙ sym whole; kind = e; after = a ∙ ap (λ (n : ℕ). held - n + 1) (sym (takes-by b (sym e))) }
 
 -- NOT REFUSED
 pub record Passes (taken held breach : ℕ) : Type 0 where

@@ -2,60 +2,44 @@
 // are held after it.
 #![tactic(auto)]
 
-ghost use Rattle.std.specs.Prelude.{◌≡◌, List, ℕ};
-ghost use Rattle.meaning.specs.Words.{◌=?◌, met};
+ghost use Rattle.std.specs.Prelude.{◌≡◌, ◌+◌, ◌-◌, List, ℕ, Some, IfOk};
+ghost use Rattle.meaning.specs.Words.{◌<?◌, ◌≤?◌, met, first};
 ghost use Rattle.meaning.specs.Blocks.{Reach, Pond, kind_number, takes_by, patternless, broken_by, reach_steps, reach_k, reach_x};
+ghost use Rattle.refusals.specs.Numbers.{refusal_number, refusal_in};
 ghost use Rattle.blocks.specs.Meant.{time_is};
 ghost use Rattle.blocks.specs.Cards.{block_of, Readable};
 ghost use Rattle.kinds.specs.Kinds.{kind_meant};
 ghost use Rattle.shaping.specs.Limits.{Read};
-ghost use Rattle.shaping.specs.Shapes.{refusal_by, ShapeIs};
+ghost use Rattle.shaping.specs.Shapes.{ShapeIs};
 
 use blocks::Time;
 use kinds::Kind;
+use refusals::Refusal;
 
 const MOST_HELD: usize = 20;
 
-// The refusal by 9 to 12, 18 or 19, 0 for none; the kind; and how many are held then, as many as before where the block is refused.
-#[derive(Clone, Copy)]
+// What a block is that none of them refuses: its kind, and how many are held then.
+#[derive(Clone, Copy, PartialEq, Eq)]
 pub struct Shape {
-    pub refusal: u64,
     pub kind: Kind,
     pub after: usize,
 }
 
 pub fn number_of(kind: Kind) -> u8
-    ensures { result ≡ kind_number (kind_meant kind) }
+    ensures { result ≡ kind_number (kind_meant (Some kind)) }
 {
-    match kind {
-        Kind::NoKind => 0,
-        Kind::Basin => 1,
-        Kind::Inflow => 2,
-        Kind::Confluence => 3,
-        Kind::Reach => 4,
-        Kind::Pond => 5,
-    }
-}
-
-// Whether the block has no kind.
-fn is_kindless(kind: Kind) -> bool
-    ensures { result ≡ (kind_number (kind_meant kind) =? 0) }
-{
-    number_of(kind) == 0
+    kind as u8
 }
 
 // How many of those held last a block of the kind takes.
 fn taken_by(kind: Kind, cards: &[u64]) -> usize
     requires { Readable cards.now }
-    ensures { (name : List ℕ) → result ≡ takes_by (kind_meant kind) (block_of name cards.now) }
+    ensures { (name : List ℕ) → result ≡ takes_by (kind_meant (Some kind)) (block_of name cards.now) }
 {
     match kind {
-        Kind::NoKind => 0,
-        Kind::Basin => 0,
-        Kind::Inflow => 0,
+        Kind::Basin | Kind::Inflow => 0,
         Kind::Confluence => blocks::value_at(cards, records::HC, 0) as usize,
-        Kind::Reach => 1,
-        Kind::Pond => 1,
+        Kind::Reach | Kind::Pond => 1,
     }
 }
 
@@ -77,47 +61,44 @@ pub fn reach_of(cards: &[u64]) -> ReachNumbers
     ReachNumbers { steps, k, x }
 }
 
-// A refusal where its test holds, else 0.
-fn met_by(test: bool, number: u64) -> u64
-    ensures { result ≡ met test number }
+// A refusal where its test holds.
+fn refuse_if(test: bool, refusal: Refusal) -> Result<(), Refusal>
+    ensures { refusal_in result ≡ met test (refusal_number refusal) }
 {
     if test {
-        return number;
+        return Err(refusal);
     }
-    0
+    Ok(())
 }
 
-// A reach whose coefficients are out of order is refused by 12.
-fn refuse_reach(time: Time, cards: &[u64]) -> u64
+// A reach whose coefficients are out of order.
+fn refuse_reach(time: Time, cards: &[u64]) -> Result<(), Refusal>
     requires { Read (time_is time) cards.now }
-    ensures { (name : List ℕ) → result ≡ broken_by Reach (time_is time) (block_of name cards.now) }
+    ensures { (name : List ℕ) → refusal_in result ≡ broken_by Reach (time_is time) (block_of name cards.now) }
 {
     let reach = reach_of(cards);
     let unroutable = routing::is_unroutable(reach.steps, time.minutes, reach.k, reach.x);
-    met_by(unroutable, 12)
+    refuse_if(unroutable, Refusal::Unroutable)
 }
 
-// A pond whose table breaks a rule is refused by 19.
-fn refuse_pond(time: Time, cards: &[u64]) -> u64
+// A pond whose table breaks a rule.
+fn refuse_pond(time: Time, cards: &[u64]) -> Result<(), Refusal>
     requires { Read (time_is time) cards.now }
-    ensures { (name : List ℕ) → result ≡ broken_by Pond (time_is time) (block_of name cards.now) }
+    ensures { (name : List ℕ) → refusal_in result ≡ broken_by Pond (time_is time) (block_of name cards.now) }
 {
     let svs = blocks::values(cards, records::SV);
     let sqs = blocks::values(cards, records::SQ);
     let breaks = pond::table_breaks(time.minutes, svs, sqs);
-    met_by(breaks, 19)
+    refuse_if(breaks, Refusal::BrokenTable)
 }
 
-// The refusal of a block of the kind whose values do not go together.
-fn refuse_broken(kind: Kind, time: Time, cards: &[u64]) -> u64
+// A block of the kind whose values do not go together.
+fn refuse_broken(kind: Kind, time: Time, cards: &[u64]) -> Result<(), Refusal>
     requires { Read (time_is time) cards.now }
-    ensures { (name : List ℕ) → result ≡ broken_by (kind_meant kind) (time_is time) (block_of name cards.now) }
+    ensures { (name : List ℕ) → refusal_in result ≡ broken_by (kind_meant (Some kind)) (time_is time) (block_of name cards.now) }
 {
     match kind {
-        Kind::NoKind => 0,
-        Kind::Basin => 0,
-        Kind::Inflow => 0,
-        Kind::Confluence => 0,
+        Kind::Basin | Kind::Inflow | Kind::Confluence => Ok(()),
         Kind::Reach => refuse_reach(time, cards),
         Kind::Pond => refuse_pond(time, cards),
     }
@@ -128,53 +109,34 @@ fn is_patternless(time: Time, cards: &[u64]) -> bool
     requires { Readable cards.now }
     ensures { (name : List ℕ) → result ≡ patternless (time_is time) (block_of name cards.now) }
 {
-    if blocks::value_at(cards, records::PB, 0) == 0 {
-        return false;
-    }
-    storms::is_dry(blocks::values(cards, records::PI), time.ordinates)
+    let total = blocks::value_at(cards, records::PB, 0);
+    total != 0 && storms::is_dry(blocks::values(cards, records::PI), time.ordinates)
 }
 
-// The refusals in their order: no kind (9), a total without a pattern (18), too few held (10), no room for one more (11), values that do not go together (12 or 19).
-fn refusal_by(kindless: bool, patternless: bool, taken: usize, held: usize, broken: u64) -> u64
-    ensures { result ≡ refusal_by kindless patternless taken held broken }
+// How many are held behind a block that takes so many, where as many are held, and there is room for one more.
+fn hold_after(taken: usize, held: usize) -> Result<usize, Refusal>
+    ensures number { refusal_in result ≡ first (met (held <? taken) 10) (met (20 ≤? (held - taken)) 11) }
+    ensures after { IfOk result (λ n. n ≡ held - taken + 1) }
 {
-    let few = held < taken;
-    if kindless {
-        return 9;
+    if held < taken {
+        return Err(Refusal::TooFewHeld);
     }
-    if patternless {
-        return 18;
+    let left = held - taken;
+    if left >= MOST_HELD {
+        return Err(Refusal::TooManyHeld);
     }
-    if few {
-        return 10;
-    }
-    if MOST_HELD <= held - taken {
-        return 11;
-    }
-    broken
+    Ok(left + 1)
 }
 
-// The shape of the open block where so many are held.
-pub fn shape_of(time: Time, cards: &[u64], held: usize) -> Shape
+// The shape of the open block where so many are held. The refusals come in their order: no kind (9), a total without a pattern (18), too few held (10),
+// no room for one more (11), values that do not go together (12 or 19).
+pub fn shape_of(time: Time, cards: &[u64], held: usize) -> Result<Shape, Refusal>
     requires { Read (time_is time) cards.now }
     ensures { (name : List ℕ) → ShapeIs (time_is time) (block_of name cards.now) held result }
 {
-    let kind = kinds::kind_of(cards);
-    let kindless = is_kindless(kind);
-    let taken = taken_by(kind, cards);
-    let broken = refuse_broken(kind, time, cards);
-    let patternless = is_patternless(time, cards);
-    let refusal = refusal_by(kindless, patternless, taken, held, broken);
-    if refusal != 0 {
-        return Shape {
-            refusal,
-            kind,
-            after: held,
-        };
-    }
-    Shape {
-        refusal: 0,
-        kind,
-        after: held - taken + 1,
-    }
+    let kind = kinds::kind_of(cards).ok_or(Refusal::NoKind)?;
+    refuse_if(is_patternless(time, cards), Refusal::NoPattern)?;
+    let after = hold_after(taken_by(kind, cards), held)?;
+    refuse_broken(kind, time, cards)?;
+    Ok(Shape { kind, after })
 }

@@ -10,10 +10,9 @@ ghost use Rattle.summary.specs.Summary.{summary_within};
 use stack::Stack;
 use summary::Summary;
 
-// A block closed: the refusal by 9 to 13 or 18 to 20, 0 for none; then the number of its kind, its area and the summary of its hydrograph, which is the last held.
+// A block closed and not refused: what is held then, the number of its kind, its area and the summary of its hydrograph, which is the last held.
 #[derive(Clone, Copy)]
 pub struct Closed {
-    pub refusal: u64,
     pub held: Stack,
     pub kind: u8,
     pub area: u32,
@@ -33,12 +32,11 @@ pub fn last_area(held: Stack) -> u32
     requires { (1 ≤ held.depth) × (held.depth ≤ 20) }
     ensures { result ≡ get_or held.areas (held.depth - 1) 0 }
 {
-    let last = held.depth - 1;
-    held.areas[last]
+    held.areas[held.depth - 1]
 }
 
 // The summary of the hydrograph held last, none where it passes the limit of a flow.
-pub fn summarize_last(work: &[u64], held: Stack, nq: usize) -> Summary
+pub fn summarize_last(work: &[u64], held: Stack, nq: usize) -> Option<Summary>
     requires { (1 ≤ held.depth) × Fits held.depth nq (length work.now) }
     ensures { result ≡ summary_within (part (most_ordinates * (held.depth - 1)) nq work.now) }
 {

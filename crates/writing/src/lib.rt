@@ -25,21 +25,17 @@ fn write_record(records: &mut [u8], k: usize, name: Name, closed: Closed, label:
     requires { (k ≤ 199) × (name.letters ≤ 6) }
     ensures { records.new ≡ record_put k (record_told (name_is name) label.ratio label.place closed) records.old }
 {
-    if records.len() < results::RECORD * k + results::RECORD {
-        return;
+    if records.len() >= results::RECORD * k + results::RECORD {
+        results::record_at(
+            records,
+            k,
+            &name.bytes[..name.letters],
+            closed.kind,
+            closed.area,
+            closed.summary,
+            label,
+        );
     }
-    let bytes = name.bytes;
-    let letters = name.letters;
-    let summary = closed.summary;
-    results::record_at(
-        records,
-        k,
-        &bytes[0..letters],
-        closed.kind,
-        closed.area,
-        summary,
-        label,
-    );
 }
 
 // The hydrograph held last, in front of the ordinates, where there is room for it.
@@ -47,11 +43,10 @@ pub fn copy_last(ordinates: &mut [u64], work: &[u64], held: Stack, nq: usize)
     requires { (1 ≤ held.depth) × Fits held.depth nq (length work.now) }
     ensures { ordinates.new ≡ copied_first nq (part (most_ordinates * (held.depth - 1)) nq work.now) ordinates.old }
 {
-    if ordinates.len() < nq {
-        return;
+    if ordinates.len() >= nq {
+        let p = telling::last_place(held);
+        ordinates[..nq].copy_from_slice(&work[p..p + nq]);
     }
-    let p = telling::last_place(held);
-    slices::copy_words(ordinates, &work[p..p + nq]);
 }
 
 // The same, if block `k`, counted from 0, is the one that is named by its number from 1.
@@ -60,10 +55,9 @@ fn copy_named(ordinates: &mut [u64], work: &[u64], held: Stack, nq: usize, named
     requires le_depth { (1 ≤ held.depth) × Fits held.depth nq (length work.now) }
     ensures { ordinates.new ≡ copied_named named k nq (part (most_ordinates * (held.depth - 1)) nq work.now) ordinates.old }
 {
-    if named != k + 1 {
-        return;
+    if named == k + 1 {
+        copy_last(ordinates, work, held, nq);
     }
-    copy_last(ordinates, work, held, nq);
 }
 
 // The ratio in force, at a place counted from 0, as a record says it.
@@ -94,6 +88,5 @@ pub fn write_result(
     ensures written { records.new ≡ record_put k (record_told (name_is name) time.ratio (asked.place + 1) closed) records.old }
 {
     write_record(records, k, name, closed, label_of(time, asked.place));
-    let held = closed.held;
-    copy_named(ordinates, work, held, time.ordinates, asked.named, k);
+    copy_named(ordinates, work, closed.held, time.ordinates, asked.named, k);
 }

@@ -4,30 +4,23 @@ use mathlib.Core.Path.{◌≡◌, sym}
 use mathlib.Core.List.{[]}
 use native.Mathlib.Omega.{arith}
 use native.Mathlib.Nat.{le_refl}
-use borrow.Author.Rules.{rules}
 use Rattle.records.specs.Rows.{items}
 use Rattle.kinds.specs.Masks.{mask_next, mask_end, mask_small}
 use Rattle.kinds.proofs.mask_of.Goals as goal
 
-pub loop-left-init : goal.loop-left-init
-loop-left-init c = (search rules, sym (mask_end [] c.args.cards.now items (le_refl items)))
+pub loop-item-init : goal.loop-item-init
+loop-item-init c = sym (mask_end [] c.args.cards.now items (le_refl items))
 
 pub overflow_mul-mask : goal.overflow_mul-mask
-overflow_mul-mask c = let l = c.loop-left in omega (arith, l.invariant.1, mask_small [] c.args.cards.now l.left)
+overflow_mul-mask c = let l = c.loop-item in omega (arith, l.invariant, mask_small [] c.args.cards.now l.item)
 
 pub overflow_add-mask : goal.overflow_add-mask
-overflow_add-mask c = let l = c.loop-left in omega (arith, l.invariant.1, mask_small [] c.args.cards.now l.left, c.bit_at.ensures.1)
+overflow_add-mask c = let l = c.loop-item in omega (arith, l.invariant, mask_small [] c.args.cards.now l.item, c.bit_at.ensures.1)
 
-pub loop-left-preserved : goal.loop-left-preserved
-loop-left-preserved c =
-    let l = c.loop-left in
+pub loop-item-preserved : goal.loop-item-preserved
+loop-item-preserved c =
+    let l = c.loop-item in
     let w = c.args.cards.now in
-    let e : l.left - 1 + 1 ≡ l.left = omega arith in
-    let next = rw e at (mask_next [] w (l.left - 1) (omega arith)) in
-    (search rules, omega (arith, next, l.invariant.1, c.bit_at.ensures.0 []))
-
-pub returns : goal.returns
-returns c =
-    let l = c.loop-left in
-    let z : l.left ≡ 0 = omega arith in
-    λ name. rw z at l.invariant.1
+    let e : l.item - 1 + 1 ≡ l.item = omega arith in
+    let next = rw e at (mask_next [] w (l.item - 1) (omega arith)) in
+    omega (arith, next, l.invariant, c.bit_at.ensures.0 [])

@@ -1,7 +1,6 @@
 -- `making::area_of` meets its contract: the value is within its limit.
 use mathlib.Core.List.{[]}
 use native.Mathlib.Omega.{arith}
-use borrow.Author.Rules.{rules}
 use Rattle.meaning.specs.Records.{BA}
 use Rattle.making.proofs.area_of.Goals as goal
 

@@ -2,7 +2,6 @@
 use mathlib.Core.Path.{◌≡◌, refl, sym, ◌∙◌}
 use mathlib.Core.List.{[]}
 use native.Mathlib.Omega.{arith}
-use borrow.Author.Rules.{rules}
 use Rattle.meaning.specs.Records.{UI}
 use Rattle.meaning.specs.Blocks.{Basin}
 use Rattle.blocks.specs.Meant.{time_is}

@@ -4,7 +4,6 @@ use Prim.Native.Nat.{ℕ}
 use mathlib.Core.List.{List, []}
 use native.Mathlib.Omega.{arith}
 use lib.ListN.{get_or}
-use borrow.Author.Rules.{rules}
 use Rattle.meaning.specs.Records.{QI}
 use Rattle.meaning.specs.Blocks.{Inflow}
 use Rattle.blocks.specs.Meant.{time_is}

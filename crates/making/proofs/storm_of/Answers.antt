@@ -1,6 +1,5 @@
 -- `making::storm_of` meets its contract: its total, its ratio and its loss are the block's own.
-use mathlib.Core.Path.{◌≡◌, refl}
-use borrow.Author.Rules.{rules}
+use mathlib.Core.Path.{refl}
 use Rattle.making.proofs.storm_of.Goals as goal
 
 pub returns : goal.returns

@@ -4,13 +4,12 @@ use mathlib.Core.Path.{◌≡◌, refl, sym, ap, ◌∙◌}
 use mathlib.Core.Bool.{true}
 use mathlib.Core.List.{[]}
 use native.Mathlib.Omega.{arith}
-use borrow.Author.Rules.{rules}
 use Rattle.sequences.specs.Choices.{taken, passed}
 use Rattle.meaning.specs.Records.{PB}
 use Rattle.meaning.specs.Water.{ten_thousandth}
 use Rattle.meaning.specs.Blocks.{is_given, card_of, storm_total}
 use Rattle.blocks.specs.Cards.{block_of}
-use Rattle.excess.specs.declared.Total.TheVariants.{NotGiven, Given}
+use Rattle.excess.specs.declared.Total.TheVariants.{Given}
 use Rattle.making.proofs.total_of.Goals as goal
 
 pub depth_of-requires : goal.depth_of-requires

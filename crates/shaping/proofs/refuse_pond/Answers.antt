@@ -11,4 +11,4 @@ table_breaks-breaks-requires c =
 pub returns : goal.returns
 returns c = λ name.
     let q = c in
-    c.met_by.ensures ∙ rw (q.table_breaks-breaks.ensures, q.values-svs.ensures name, q.values-sqs.ensures name)
+    c.refuse_if.ensures ∙ rw (q.table_breaks-breaks.ensures, q.values-svs.ensures name, q.values-sqs.ensures name)

@@ -16,4 +16,4 @@ is_unroutable-unroutable-requires c =
 pub returns : goal.returns
 returns c = λ name.
     let e = c.reach_of-reach.ensures name in
-    c.met_by.ensures ∙ rw (c.is_unroutable-unroutable.ensures, e.0, e.1, e.2)
+    c.refuse_if.ensures ∙ rw (c.is_unroutable-unroutable.ensures, e.0, e.1, e.2)
