@@ -14,8 +14,7 @@ use Rattle.network.specs.Network.{network_of}
 use Rattle.network.specs.Order.{PairOff, said, Sound, Enough}
 use Rattle.network.specs.Point3.{OrderFree}
 use Rattle.network.proofs.Point3.{order_does_not_matter}
-use Rattle.answers.specs.declared.Answer.TheVariants.{Accepted}
-use Rattle.answers.specs.Answers.{outcome_is, lent_as}
+use Rattle.answers.specs.Answers.{accepted_as, outcome_is, lent_as}
 use Rattle.engine.proofs.run.Kinds as kinds
 use Rattle.engine.proofs.run.Reads as says
 
@@ -43,7 +42,7 @@ pub runs_in_any_order : (κs λs : Lfts 4) (a : Dens κs kinds.ps) (b : Dens λs
     → said (deck κs a) ≡ Sound τ bs
     → said (deck λs b) ≡ Sound τ cs
     → PairOff (network_of bs) (network_of cs)
-    → x ≡ Accepted nq blocks ratios
+    → x ≡ accepted_as nq blocks ratios
     → length (deck λs b) ≤ deck_size
     → Enough τ cs (named λs b) (ratio λs b) (lent λs b)
     → OrderFree τ bs cs (named κs a) (ratio κs a) (named λs b) (ratio λs b) (lent κs a) (lent λs b) (gave κs x e) (gave λs y f)

@@ -9,10 +9,9 @@ use Rattle.sequences.specs.Refusals.{neither_met, not_met}
 use Rattle.meaning.specs.Blocks.{or_whole}
 use Rattle.meaning.specs.Words.{◌<?◌, when◌then◌else◌, met}
 use Rattle.meaning.specs.Run.{Outcome, Lent, refused, block_count, record_bytes, accepted, no_room, outcome, work_size, deck_size}
-use Rattle.answers.specs.Answers.{outcome_is, lent_as, lacking, size_refusal, settled_as}
-use Rattle.answers.specs.declared.Answer.TheVariants as answer
+use Rattle.answers.specs.Answers.{accepted_as, outcome_is, lent_as, lacking, size_refusal, settled_as}
 use Rattle.passes.specs.Loop.{loop_ends}
-use Rattle.rounds.specs.declared.Wanted.{Wanted}
+use Rattle.answers.specs.declared.Wanted.{Wanted}
 use Rattle.rounds.specs.Every.{EveryDone}
 use Rattle.engine.specs.Outcomes.{settles, listed_of, listed_sized}
 
@@ -50,7 +49,7 @@ module _ (deck : List ℕ) (named ratio : ℕ) (work ordinates records work' ord
 
     -- with room for them the results stand as the definition has them
     as_they_stand : lacking nq blocks ratios named ratio (length ordinates') (length records') ≡ false
-        → outcome_is (answer.Accepted nq blocks ratios) (replicate (length work') 0) ordinates' records' ≡ accepted named ratio d.time d.results lent
+        → outcome_is (accepted_as nq blocks ratios) (replicate (length work') 0) ordinates' records' ≡ accepted named ratio d.time d.results lent
     as_they_stand h =
         let room = enough_room nq blocks ratios named ratio (length ordinates) (length records) (rw (lo, lr) at h) in
         let few : named ≤ block_count d.results = rw d.blocks-are room.2 in
@@ -60,7 +59,7 @@ module _ (deck : List ℕ) (named ratio : ℕ) (work ordinates records work' ord
         ∙ rw (d.ordinates-are, d.blocks-are, lw))
 
     by_room : (t : Bool) → lacking nq blocks ratios named ratio (length ordinates') (length records') ≡ t
-        → (when t then refused 17 0 (lent_as work' ordinates' records') else outcome_is (answer.Accepted nq blocks ratios) (replicate (length work') 0) ordinates' records')
+        → (when t then refused 17 0 (lent_as work' ordinates' records') else outcome_is (accepted_as nq blocks ratios) (replicate (length work') 0) ordinates' records')
         ≡ (when t then refused 17 0 lent else accepted named ratio d.time d.results lent)
     unfolding when◌then◌else◌
     by_room true h = rw (lw, lo, lr)

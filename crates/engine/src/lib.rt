@@ -3,13 +3,14 @@
 
 ghost use Rattle.std.specs.Prelude.{◌≡◌, [], ◌≤◌, length};
 ghost use Rattle.meaning.specs.Run.{refused, outcome};
+ghost use Rattle.refusals.specs.Numbers.{refusal_number};
 ghost use Rattle.blocks.specs.Meant.{ratios_is};
 ghost use Rattle.answers.specs.Answers.{outcome_is, lent_as};
 ghost use Rattle.engine.specs.Outcomes.{listed_of};
 
-use answers::Answer;
+use answers::{Accepted, Answer, Wanted};
 use blocks::Ratios;
-use rounds::Wanted;
+use refusals::Refused;
 
 // The answer, and the ratios that the deck lists where it is sound.
 #[derive(Clone, Copy)]
@@ -19,19 +20,14 @@ pub struct Ran {
 }
 
 // Refuses, and leaves nothing in what was lent.
-fn refuse(
-    number: u64,
-    line: u64,
-    work: &mut [u64],
-    ordinates: &mut [u64],
-    records: &mut [u8],
-) -> Ran
-    ensures records_after { outcome_is result.answer work.new ordinates.new records.new ≡ refused number line (lent_as work.old ordinates.old records.old) }
+fn refuse(reason: Refused, work: &mut [u64], ordinates: &mut [u64], records: &mut [u8]) -> Ran
+    ensures records_after { outcome_is result.answer work.new ordinates.new records.new ≡ refused (refusal_number reason.refusal) reason.line (lent_as work.old ordinates.old records.old) }
     ensures none { (ratios_is result.ratios ≡ []) × (result.ratios.count ≤ 9) }
 {
-    let answer = answers::refuse(number, line, work, ordinates, records);
-    let ratios = blocks::no_ratios();
-    Ran { answer, ratios }
+    Ran {
+        answer: answers::refuse(reason, work, ordinates, records),
+        ratios: blocks::no_ratios(),
+    }
 }
 
 // Runs a deck, and tells its ratios. `named` is the block whose ordinates are wanted and `ratio` the ratio, each by its number from 1; 0 stands for the last.
@@ -46,34 +42,29 @@ pub fn run_listed(
     ensures records_after { outcome_is result.answer work.new ordinates.new records.new ≡ outcome deck.now named ratio (lent_as work.old ordinates.old records.old) }
     ensures listed { (ratios_is result.ratios ≡ listed_of deck.now (length work.old)) × (result.ratios.count ≤ 9) }
 {
-    let refusal = answers::size_refusal(work.len(), deck.len());
-    if refusal != 0 {
-        return refuse(refusal, 0, work, ordinates, records);
+    if let Err(refusal) = answers::size_refusal(work.len(), deck.len()) {
+        return refuse(Refused { refusal, line: 0 }, work, ordinates, records);
     }
-    slices::zero_words(ordinates);
-    slices::fill_bytes(records, 0);
+    ordinates.fill(0);
+    records.fill(0);
     let wanted = Wanted {
         block: named,
         ratio,
     };
     let walked = rounds::walk_every(deck, wanted, work, ordinates, records);
-    let worked = walked.worked;
-    if worked.refused {
-        return refuse(worked.number, worked.line, work, ordinates, records);
-    }
     let ratios = walked.ratios;
-    let count = lending::count_of(ratios);
-    let answer = answers::settle(
-        worked.nq,
-        worked.blocks,
-        count,
-        named,
-        ratio,
-        work,
-        ordinates,
-        records,
-    );
-    Ran { answer, ratios }
+    match walked.worked {
+        Ok(worked) => {
+            let found = Accepted {
+                ordinates: worked.nq,
+                blocks: worked.blocks,
+                ratios: lending::count_of(ratios),
+            };
+            let answer = answers::settle(found, wanted, work, ordinates, records);
+            Ran { answer, ratios }
+        }
+        Err(reason) => refuse(reason, work, ordinates, records),
+    }
 }
 
 // Runs a deck. `named` is the block whose ordinates are wanted and `ratio` the ratio, each by its number from 1; 0 stands for the last.
@@ -87,7 +78,5 @@ pub fn run(
 ) -> Answer
     ensures { outcome_is result work.new ordinates.new records.new ≡ outcome deck.now named ratio (lent_as work.old ordinates.old records.old) }
 {
-    let ran = run_listed(deck, named, ratio, work, ordinates, records);
-    let answer = ran.answer;
-    answer
+    run_listed(deck, named, ratio, work, ordinates, records).answer
 }

@@ -2,7 +2,8 @@
 -- ordinates and records. The work words are scratch, and so are the ratios of a refused deck.
 use Prim.Native.Nat.{ℕ, ◌-◌, ◌≤◌}
 use mathlib.Core.Path.{◌≡◌, sym, ap, ◌∙◌}
-use mathlib.Core.Bool.{Bool, true, false, true≢false}
+use Rattle.std.specs.Prelude as std
+use Rattle.std.specs.Prelude.{Ok, Err}
 use mathlib.Core.List.{List, [], ◌++◌}
 use lib.ListN.{length, replicate}
 use Rattle.sequences.specs.OneOutcome.{Once, OnceAt}
@@ -11,21 +12,22 @@ use Rattle.meaning.specs.Results.{Result}
 use Rattle.meaning.specs.Run as run
 use Rattle.meaning.specs.Run.{Stopped, Done, worked, named_flow, named_ratio, all_records, record_bytes}
 use Rattle.blocks.specs.Meant.{ratios_is}
+use Rattle.refusals.specs.declared.Refused.{Refused}
 use Rattle.turns.specs.declared.Worked.{Worked}
 use Rattle.walking.specs.declared.Walked.{Walked}
 use Rattle.walking.specs.Said.{said_by, said, said_of}
-use Rattle.rounds.specs.declared.Wanted.{Wanted}
+use Rattle.answers.specs.declared.Wanted.{Wanted}
 use Rattle.rounds.specs.Every.{EveryDone, EveryBy, EveryIs}
 use Rattle.rounds.proofs.walk_every.Kinds as walk-every
 use Rattle.rounds.proofs.walk_every.Reads as walk-every-says
 
-said-by : (t : Bool) (deck : List ℕ) (wanted : Wanted) (n m : ℕ) (listed : List ℕ) (w : Worked) (ordinates records : List ℕ) → EveryBy t deck wanted n m listed w ordinates records
-    → said_by t w.number w.line w.nq w.blocks listed ≡ said_of (worked deck)
-said-by true deck wanted n m listed w ordinates records e = rw e
-said-by false deck wanted n m listed w ordinates records d = rw (d.done, d.ordinates-are, d.blocks-are, d.listed-are)
+said-by : (w : std.Result Worked Refused) (deck : List ℕ) (wanted : Wanted) (n m : ℕ) (listed : List ℕ) (ordinates records : List ℕ) → EveryBy deck wanted n m listed w ordinates records
+    → said_by w listed ≡ said_of (worked deck)
+said-by (Err r) deck wanted n m listed ordinates records e = rw e
+said-by (Ok w) deck wanted n m listed ordinates records d = rw (d.done, d.ordinates-are, d.blocks-are, d.listed-are)
 
 said_is : (deck : List ℕ) (wanted : Wanted) (n m : ℕ) (w : Walked) (ordinates records : List ℕ) → EveryIs deck wanted n m w ordinates records → said w ≡ said_of (worked deck)
-said_is deck wanted n m w ordinates records p = said-by w.worked.refused deck wanted n m (ratios_is w.ratios) w.worked ordinates records p.every
+said_is deck wanted n m w ordinates records p = said-by w.worked deck wanted n m (ratios_is w.ratios) ordinates records p.every
 
 pub said-once : Once walk-every.ps walk-every.r walk-every-says.Post (λ κs x y e f. said x ≡ said y)
 said-once κs a x y e f p q = said_is _ _ _ _ x _ _ p ∙ sym (said_is _ _ _ _ y _ _ q)
@@ -65,22 +67,17 @@ module _ (deck : List ℕ) (wanted : Wanted) (n m : ℕ) (listed : List ℕ) (nq
         let flow = rw d.ordinates-are at h in
         flow ∙ ap (λ (rss : List (List Result)). named_flow wanted.block (named_ratio wanted.ratio rss) ++ replicate (n - nq) 0) results_are
 
-done_by : (t : Bool) → t ≡ false → (deck : List ℕ) (wanted : Wanted) (n m : ℕ) (listed : List ℕ) (w : Worked) (ordinates records : List ℕ)
-    → EveryBy t deck wanted n m listed w ordinates records → EveryDone deck wanted n m listed w.nq w.blocks ordinates records
-done_by true e deck wanted n m listed w ordinates records d = absurd (true≢false e)
-done_by false e deck wanted n m listed w ordinates records d = d
-
 -- what was lent for results holds the same where the deck is accepted and has room
 pub results-once : OnceAt walk-every.ps walk-every.r walk-every-says.Post
-    (λ κs a x y e f. x.worked.refused ≡ false → y.worked.refused ≡ false → a.1.0.block ≤ x.worked.blocks → x.worked.nq ≤ length a.1.1.1.0.now
-    → a.1.0.ratio ≤ length (or_whole (ratios_is x.ratios)) → record_bytes x.worked.blocks (length (or_whole (ratios_is x.ratios))) ≤ length a.1.1.1.1.0.now
+    (λ κs a x y e f. (w v : Worked) → x.worked ≡ Ok w → y.worked ≡ Ok v → a.1.0.block ≤ w.blocks → w.nq ≤ length a.1.1.1.0.now
+    → a.1.0.ratio ≤ length (or_whole (ratios_is x.ratios)) → record_bytes w.blocks (length (or_whole (ratios_is x.ratios))) ≤ length a.1.1.1.1.0.now
     → (e.1.1.1.0.now ≡ f.1.1.1.0.now) × (e.1.1.1.1.0.now ≡ f.1.1.1.1.0.now))
-results-once κs a x y e f p q s t known flows rated room =
-    let d = done_by x.worked.refused s _ _ _ _ _ x.worked _ _ p.every in
-    let g = done_by y.worked.refused t _ _ _ _ _ y.worked _ _ q.every in
+results-once κs a x y e f p q w v s t known flows rated room =
+    let d = rw s at p.every in
+    let g = rw t at q.every in
     let same = rw (s, t) at (said-once κs a x y e f p q) in
-    let nq : y.worked.nq ≡ x.worked.nq = cc in
-    let blocks : y.worked.blocks ≡ x.worked.blocks = cc in
+    let nq : v.nq ≡ w.nq = cc in
+    let blocks : v.blocks ≡ w.blocks = cc in
     let listed : ratios_is y.ratios ≡ ratios_is x.ratios = cc in
     let g' = rw (nq, blocks, listed) at g in (
       flow_is _ _ _ _ _ _ _ known flows rated room _ _ d ∙ sym (flow_is _ _ _ _ _ _ _ known flows rated room _ _ g'),

@@ -9,15 +9,10 @@ ghost use Rattle.passes.specs.Apart.{ratio_count};
 ghost use Rattle.rounds.specs.Rounds.{Rounds, Begun};
 ghost use Rattle.rounds.specs.Every.{EveryIs};
 
+use answers::Wanted;
+use refusals::Refused;
 use turns::Worked;
 use walking::Walked;
-
-// What the ordinates are wanted of: a block and a ratio, each by its number from 1; 0 stands for the last.
-#[derive(Clone, Copy)]
-pub struct Wanted {
-    pub block: usize,
-    pub ratio: usize,
-}
 
 // The first round. What is lent for results holds zeros before.
 fn walk_first(
@@ -49,19 +44,19 @@ fn walk_next(
     deck: &[u8],
     wanted: Wanted,
     place: usize,
-    found: Worked,
+    found: Result<Worked, Refused>,
     work: &mut [u64],
     ordinates: &mut [u64],
     records: &mut [u8],
     cards: &mut [u64],
-) -> Worked
+) -> Result<Worked, Refused>
     requires work_size_in_bounds { (work_size ≤ length work.old) × (words_of table ≤ length cards.old) }
     requires place_bound { (place < ratio_count deck.now) × (place ≤ 9) }
     requires rounds { Rounds deck.now wanted (length ordinates.old) (length records.old) place found ordinates.old records.old }
     ensures { Rounds deck.now wanted (length ordinates.old) (length records.old) (place + 1) result ordinates.new records.new }
 {
-    let from = lending::ordinates_from(found.refused, wanted.ratio, place, ordinates.len());
-    let behind = lending::records_from(found.refused, found.blocks, place, records.len());
+    let from = lending::ordinates_from(found.is_err(), wanted.ratio, place, ordinates.len());
+    let behind = lending::records_from(found, place, records.len());
     lending::clear_from(ordinates, from);
     let walked = walking::walk_deck(
         deck,
@@ -72,8 +67,7 @@ fn walk_next(
         &mut records[behind..],
         cards,
     );
-    let next = walked.worked;
-    lending::sooner(found, next)
+    lending::sooner(found, walked.worked)
 }
 
 // A round under every ratio. A refusal does not end them, since that of another ratio may be met on an earlier line. What is lent for results holds zeros before.
@@ -91,15 +85,11 @@ pub fn walk_every(
     let mut cards = [0u64; records::WORDS];
     let first = walk_first(deck, wanted, work, ordinates, records, &mut cards);
     let ratios = first.ratios;
-    let count = lending::count_of(ratios);
-    let mut found = first.worked;
-    let mut place: usize = 1;
-    while place < count {
-        found = walk_next(
-            deck, wanted, place, found, work, ordinates, records, &mut cards,
+    let mut worked = first.worked;
+    for place in 1..lending::count_of(ratios) {
+        worked = walk_next(
+            deck, wanted, place, worked, work, ordinates, records, &mut cards,
         );
-        place += 1;
     }
-    let worked = found;
     Walked { worked, ratios }
 }

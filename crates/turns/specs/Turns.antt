@@ -3,14 +3,14 @@
 --     Stops, GoesOn          the deck is refused, or the next block is opened
 --     OpensNext, EndsDeck    which of the ways it is, by the refusal of the block that is closed, and what then stands in the way
 use Rattle.std.specs.Prelude.{ℕ, zero, suc, ◌+◌, ◌-◌, ◌*◌, ◌≤◌, ◌<◌, ◌≡◌, refl, List, ◌⊎◌, Result, Ok, Err}
-use Rattle.std.proofs.Common.{ap, inl, inr, ⊎_elim, arith}
+use Rattle.std.proofs.Common.{ap, sym, ◌∙◌, inl, inr, ⊎_elim, arith}
 use Rattle.sequences.specs.Parts.{part}
 use Rattle.meaning.specs.Words.{◌=?◌, when◌then◌else◌}
 use Rattle.meaning.specs.Records.{most_ordinates}
 use Rattle.meaning.specs.Run.{most_blocks}
 use Rattle.refusals.specs.declared.Refusal.{Refusal}
 use Rattle.refusals.specs.declared.Refused.{Refused}
-use Rattle.refusals.specs.Numbers.{refusal_number, refusal_in}
+use Rattle.refusals.specs.Numbers.{refusal_number, refusal_in, named_by, named_back}
 use Rattle.blocks.specs.declared.Name.{Name}
 use Rattle.placing.specs.declared.Reading.{Reading}
 use Rattle.placing.specs.Readings.{Begins, Opens}
@@ -50,22 +50,30 @@ worked_well nq blocks = Ok (record { nq = nq; blocks = blocks })
 abbrev pub copied_last : (named nq : ℕ) → (flow ordinates : List ℕ) → List ℕ
 copied_last named nq flow ordinates = when named =? 0 then copied_first nq flow ordinates else ordinates
 
+-- a block finished: what is held then, or what it is refused for
+abbrev pub Finished : Type 0
+Finished = Result Stack Refusal
+
 -- what is held where a block was closed, or none was open; nothing where it was refused
-abbrev pub stack_in : Result Stack Refusal → Stack
+abbrev pub stack_in : Finished → Stack
 stack_in (Ok s) = s
 stack_in (Err r) = none_held
 
-pub record OpensNext (r : Reading) (name : Name) (at line : ℕ) (closed : Result Stack Refusal) (blocks : ℕ) (t : Result State Refused) (cards : List ℕ) : Type 0 where
+pub record OpensNext (r : Reading) (name : Name) (at line : ℕ) (closed : Finished) (blocks : ℕ) (t : Result State Refused) (cards : List ℕ) : Type 0 where
   pub refused : (refusal_in closed ≡ 0 → ⊥) → Stops (refusal_in closed) line t
   pub many : refusal_in closed ≡ 0 → most_blocks ≤ blocks → Stops 14 line t
   pub goes : refusal_in closed ≡ 0 → blocks < most_blocks → GoesOn r (stack_in closed) name at line blocks t cards
 
 -- the ordinates, once more where the deck is accepted: ordinates'
-pub record EndsDeck (nq line : ℕ) (closed : Result Stack Refusal) (blocks named : ℕ) (t : Result Worked Refused) (work ordinates ordinates' : List ℕ) : Type 0 where
+pub record EndsDeck (nq line : ℕ) (closed : Finished) (blocks named : ℕ) (t : Result Worked Refused) (work ordinates ordinates' : List ℕ) : Type 0 where
   pub refused : (refusal_in closed ≡ 0 → ⊥) → Stops (refusal_in closed) line t
   pub not-one : refusal_in closed ≡ 0 → ((stack_in closed).depth ≡ 1 → ⊥) → Stops 15 line t
   pub done : refusal_in closed ≡ 0 → (stack_in closed).depth ≡ 1
       → (t ≡ worked_well nq blocks) × (ordinates' ≡ copied_last named nq (part (most_ordinates * ((stack_in closed).depth - 1)) nq work) ordinates)
+
+-- no refusal has the number 0
+pub some_refused : (r : Refusal) → refusal_number r ≡ 0 → ⊥
+some_refused r h = let one : refusal_number r ≡ 1 = ap refusal_number (sym (named_back r) ∙ ap named_by h) in omega (arith, h, one)
 
 -- which way it is, where it hangs on a number
 pub is_or_not : (a b : ℕ) → (a ≡ b) ⊎ (a ≡ b → ⊥)

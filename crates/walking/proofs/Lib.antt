@@ -1,2 +1,1 @@
--- That two outcomes which meet the contract of the walk are equal.
-pub mod Unique
+-- none

@@ -1,7 +1,8 @@
 -- Where the run stands between two blocks, and what it comes to.
 --     Going      the run's invariant: the walk over the lines left, from here, is the walk over the deck
 --     WorkedIs   what the deck came to, and WalkedIs with its ratios
-use Rattle.std.specs.Prelude.{ℕ, ◌+◌, ◌-◌, ◌*◌, ◌≤◌, ◌<◌, ◌≡◌, Bool, true, false, List, [], ◌∷◌, ◌++◌, length, drop, get_or, replicate}
+use Rattle.std.specs.Prelude as std
+use Rattle.std.specs.Prelude.{ℕ, ◌+◌, ◌-◌, ◌*◌, ◌≤◌, ◌<◌, ◌≡◌, Ok, Err, List, [], ◌∷◌, ◌++◌, length, drop, get_or, replicate}
 use Rattle.sequences.specs.Parts.{part}
 use Rattle.meaning.specs.Lines.{lines_of}
 use Rattle.meaning.specs.Blocks.{Time, or_whole, ratio_at, Block}
@@ -22,10 +23,13 @@ use Rattle.telling.specs.declared.Closed.{Closed}
 use Rattle.writing.specs.WrittenResult.{record_told, record_put, copied_named}
 use Rattle.closing.specs.ClosedBlock.{Closes}
 use Rattle.closing.specs.BetweenBlocks.{Carried, HeldAfter}
-use Rattle.turns.specs.declared.Finished.{Finished}
 use Rattle.turns.specs.declared.State.{State}
+use Rattle.refusals.specs.declared.Refused.{Refused}
+use Rattle.refusals.specs.Numbers.{refusal_number, refusal_in}
+use Rattle.turns.specs.Turns.{Finished, stack_in}
 use Rattle.turns.specs.declared.Worked.{Worked}
 use Rattle.turns.specs.declared.Turn.{Turn}
+use Rattle.turns.specs.declared.Turn.TheVariants as turn
 use Rattle.walking.specs.declared.Walked.{Walked}
 use Rattle.passes.specs.Apart.{count_from, ratio_count}
 use Rattle.passes.specs.One.{time_at}
@@ -80,21 +84,21 @@ pub record DoneIs (deck : List ℕ) (named place n m : ℕ) (listed : List ℕ) 
   pub told : record_size * length results ≤ m → records ≡ records_in (ratio_at place time) (place + 1) m results
   pub flow : named ≤ length results → nq ≤ n → ordinates ≡ named_flow named results ++ replicate (n - nq) 0
 
-abbrev pub WorkedBy : Bool → List ℕ → (named place n m : ℕ) → (listed : List ℕ) → (number line nq blocks : ℕ) → (ordinates records : List ℕ) → Type 0
-WorkedBy true deck named place n m listed number line nq blocks ordinates records = worked_under (Only place) deck ≡ Stopped number line
-WorkedBy false deck named place n m listed number line nq blocks ordinates records = DoneIs deck named place n m listed nq blocks ordinates records
+-- what the work on a deck came to: refused, or sound
+abbrev pub WorkedIs : List ℕ → (named place n m : ℕ) → (listed : List ℕ) → std.Result Worked Refused → (ordinates records : List ℕ) → Type 0
+WorkedIs deck named place n m listed (Err r) ordinates records = worked_under (Only place) deck ≡ Stopped (refusal_number r.refusal) r.line
+WorkedIs deck named place n m listed (Ok w) ordinates records = DoneIs deck named place n m listed w.nq w.blocks ordinates records
 
-abbrev pub WorkedIs : List ℕ → (named place n m : ℕ) → (listed : List ℕ) → Worked → (ordinates records : List ℕ) → Type 0
-WorkedIs deck named place n m listed w ordinates records = WorkedBy w.refused deck named place n m listed w.number w.line w.nq w.blocks ordinates records
-
--- A turn from a state: the deck is worked, and the state has its ratios; or the run goes on further behind.
-abbrev pub TurnBy : Bool → List ℕ → (named place n m : ℕ) → (from next : State) → Worked → (work ordinates records cards : List ℕ) → Type 0
-TurnBy true deck named place n m from next w work ordinates records cards =
+-- the same where the walk stands in a state, whose ratios are the deck's
+abbrev pub EndsIn : List ℕ → (named place n m : ℕ) → State → std.Result Worked Refused → (ordinates records : List ℕ) → Type 0
+EndsIn deck named place n m from w ordinates records =
     WorkedIs deck named place n m (listed_in from) w ordinates records × (length (or_whole (listed_in from)) ≡ ratio_count deck)
-TurnBy false deck named place n m from next w work ordinates records cards = Going deck named place n m next work ordinates records cards × (from.at < next.at)
 
-abbrev pub TurnIs : List ℕ → (named place n m : ℕ) → State → Turn → (work ordinates records cards : List ℕ) → Type 0
-TurnIs deck named place n m from t work ordinates records cards = TurnBy t.ended deck named place n m from t.state t.worked work ordinates records cards
+-- A turn from a state: the run goes on further behind; or the deck is worked.
+abbrev pub TurnIs : List ℕ → (named place n m : ℕ) → State → std.Result Turn Refused → (work ordinates records cards : List ℕ) → Type 0
+TurnIs deck named place n m from (Ok (turn.GoesOn next)) work ordinates records cards = Going deck named place n m next work ordinates records cards × (from.at < next.at)
+TurnIs deck named place n m from (Ok (turn.Ended w)) work ordinates records cards = EndsIn deck named place n m from (Ok w) ordinates records
+TurnIs deck named place n m from (Err r) work ordinates records cards = EndsIn deck named place n m from (Err r) ordinates records
 
 -- A deck walked: what it came to, and the ratios in force where it did.
 pub record WalkedIs (deck : List ℕ) (named place n m : ℕ) (w : Walked) (ordinates records : List ℕ) : Type 0 where
@@ -111,17 +115,17 @@ reading_under place r =
 pub record Finishes (τ : Time) (b : Block) (s : Stack) (named place k : ℕ) (x : Finished) (work work' ordinates ordinates' records records' : List ℕ) : Type 0 where
   pub closed : Closed
   pub closes : Closes τ b s work closed work'
-  pub number : x.refusal ≡ closed.refusal
-  pub held : x.held ≡ closed.held
-  pub copied : x.refusal ≡ 0 → ordinates' ≡ copied_named named k τ.ordinates (part (most_ordinates * (closed.held.depth - 1)) τ.ordinates work') ordinates
-  pub written : x.refusal ≡ 0 → records' ≡ record_put k (record_told b.name τ.ratio (place + 1) closed) records
+  pub number : refusal_in x ≡ closed.refusal
+  pub held : stack_in x ≡ closed.held
+  pub copied : refusal_in x ≡ 0 → ordinates' ≡ copied_named named k τ.ordinates (part (most_ordinates * (closed.held.depth - 1)) τ.ordinates work') ordinates
+  pub written : refusal_in x ≡ 0 → records' ≡ record_put k (record_told b.name τ.ratio (place + 1) closed) records
 
 -- where a block closes, by the phase: the open block is finished; else nothing was open
 abbrev pub ClosedBy : Phase → Reading → Stack → (blocks named place : ℕ) → Finished → (work work' ordinates ordinates' records records' cards : List ℕ) → Type 0
 ClosedBy phase.BeforeTime r held blocks named place x work work' ordinates ordinates' records records' cards =
-    (x.refusal ≡ 0) × (x.held ≡ held) × (work' ≡ work) × (ordinates' ≡ ordinates) × (records' ≡ records)
+    (x ≡ Ok held) × (work' ≡ work) × (ordinates' ≡ ordinates) × (records' ≡ records)
 ClosedBy phase.BeforeBlocks r held blocks named place x work work' ordinates ordinates' records records' cards =
-    (x.refusal ≡ 0) × (x.held ≡ held) × (work' ≡ work) × (ordinates' ≡ ordinates) × (records' ≡ records)
+    (x ≡ Ok held) × (work' ≡ work) × (ordinates' ≡ ordinates) × (records' ≡ records)
 ClosedBy phase.InBlock r held blocks named place x work work' ordinates ordinates' records records' cards =
     Finishes (time_is r.time) (block_is r cards) held named place (blocks - 1) x work work' ordinates ordinates' records records'
 

@@ -1,9 +1,9 @@
 -- The block that was open, closed: the refusal that the definitions ask for, and what the run then has.
 --     closed_number    the refusal
 --     ClosedWell       where there is none: what is held and the results are those of the definitions, and what was lent holds them
-use Rattle.std.specs.Prelude.{ℕ, ◌+◌, ◌-◌, ◌≡◌, List, [], ◌∷◌, ◌++◌, get_or}
+use Rattle.std.specs.Prelude.{ℕ, ◌+◌, ◌-◌, ◌≡◌, Ok, List, [], ◌∷◌, ◌++◌, get_or}
 use Rattle.std.proofs.Math.Path.{refl, sym}
-use Rattle.std.proofs.Common.{◌∙◌}
+use Rattle.std.proofs.Common.{ap, ◌∙◌}
 use native.Mathlib.Omega.{arith}
 use Rattle.std.proofs.Math.ListN.{length, length-append}
 use Rattle.meaning.specs.Results.{Result}
@@ -19,16 +19,17 @@ use Rattle.placing.specs.Readings.{reading_is, reading_by, block_is}
 use Rattle.placing.specs.Labels.{name_short}
 use Rattle.stack.specs.declared.Stack.{Stack}
 use Rattle.stack.specs.View.{view}
-use Rattle.turns.specs.declared.Finished.{Finished}
 use Rattle.closing.specs.ToldResult.{result_of, told_number}
 use Rattle.closing.specs.BetweenBlocks.{Carried, carried_more, HeldAfter, held_more}
 use Rattle.passes.specs.One.{one_refusal}
+use Rattle.refusals.specs.Numbers.{refusal_in}
+use Rattle.turns.specs.Turns.{Finished, stack_in}
 use Rattle.walking.specs.OneRun.{standing, closed_run}
 use Rattle.walking.specs.Going.{CountBy, run_of, reading_under, Finishes, ClosedBy}
 
 pub record ClosedWell (named place n m : ℕ) (q : run.Reading) (was : Run) (nq : ℕ) (x : Finished) (work ordinates records : List ℕ) : Type 0 where
-  pub held-is : view x.held nq work ≡ (closed_run q was).held
-  pub held : HeldAfter (length (closed_run q was).results) x.held nq work
+  pub held-is : view (stack_in x) nq work ≡ (closed_run q was).held
+  pub held : HeldAfter (length (closed_run q was).results) (stack_in x) nq work
   pub carried : Carried named place was.time n m (closed_run q was).results ordinates records
 
 module _ (named place n m : ℕ) (r : Reading) (h : Stack) (blocks : ℕ) (x : Finished) (work work' ordinates ordinates' records records' cards : List ℕ) (rs : List Result) where
@@ -42,22 +43,22 @@ module _ (named place n m : ℕ) (r : Reading) (h : Stack) (blocks : ℕ) (x : F
   abbrev was : Run
   was = run_of place r h rs work
 
-  number_by : (p : Phase) → ClosedBy p here h blocks named place x work work' ordinates ordinates' records records' cards → x.refusal ≡ open_refusal (reading p) (standing p blocks was)
-  number_by phase.BeforeTime c = c.0
-  number_by phase.BeforeBlocks c = c.0
+  number_by : (p : Phase) → ClosedBy p here h blocks named place x work work' ordinates ordinates' records records' cards → refusal_in x ≡ open_refusal (reading p) (standing p blocks was)
+  number_by phase.BeforeTime c = ap refusal_in c.0
+  number_by phase.BeforeBlocks c = ap refusal_in c.0
   number_by phase.InBlock c =
       c.number ∙ told_number c.closes
       ∙ sym (one_refusal (get_or (ratios_is r.time.ratios) place 100) (time_is r.time) (form_of r.free) (block_is r cards) blocks (view h r.time.ordinates work) rs)
 
   pub closed_number : ClosedBy r.phase here h blocks named place x work work' ordinates ordinates' records records' cards
-      → x.refusal ≡ open_refusal (reading_is r cards) (standing r.phase blocks was)
+      → refusal_in x ≡ open_refusal (reading_is r cards) (standing r.phase blocks was)
   closed_number c = number_by r.phase c
 
   module _ (held : HeldAfter (length rs) h r.time.ordinates work) (carried : Carried named place was.time n m rs ordinates records) (lw : length work' ≡ length work)
-      (lo : length ordinates' ≡ length ordinates) (lr : length records' ≡ length records) (none : x.refusal ≡ 0) where
-    idle : (q : run.Reading) → closed_run q was ≡ was → (x.refusal ≡ 0) × (x.held ≡ h) × (work' ≡ work) × (ordinates' ≡ ordinates) × (records' ≡ records)
+      (lo : length ordinates' ≡ length ordinates) (lr : length records' ≡ length records) (none : refusal_in x ≡ 0) where
+    idle : (q : run.Reading) → closed_run q was ≡ was → (x ≡ Ok h) × (work' ≡ work) × (ordinates' ≡ ordinates) × (records' ≡ records)
         → ClosedWell named place n m q was r.time.ordinates x work' ordinates' records'
-    idle q e c = record { held-is = rw (e, c.1, c.2); held = rw (e, c.1, c.2) held; carried = rw (e, c.3, c.4) carried }
+    idle q e c = record { held-is = rw (e, c.0, c.1); held = rw (e, c.0, c.1) held; carried = rw (e, c.2, c.3) carried }
 
     well_by : (p : Phase) → ReadingWithin (reading p) → CountBy p blocks (length rs) h.depth
         → ClosedBy p here h blocks named place x work work' ordinates ordinates' records records' cards

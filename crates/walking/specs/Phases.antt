@@ -23,9 +23,10 @@ use Rattle.stack.specs.View.{view, length_held}
 use Rattle.telling.specs.LastHeld.{view_last}
 use Rattle.writing.specs.WrittenResult.{copied_first}
 use Rattle.closing.specs.BetweenBlocks.{Carried, carried_last}
-use Rattle.turns.specs.declared.Finished.{Finished}
 use Rattle.passes.specs.Apart.{count-found, count_found}
 use Rattle.passes.specs.One.{time_at}
+use Rattle.refusals.specs.Numbers.{refusal_in}
+use Rattle.turns.specs.Turns.{Finished}
 use Rattle.walking.specs.OneRun.{alone, closed_run}
 use Rattle.walking.specs.Going.{CountBy, RatiosBy, run_of, ClosedBy}
 
@@ -118,19 +119,19 @@ ratios_by phase.InBlock phase.InBlock τ form b lines from n next line rest list
 -- A KK that is refused, or is one too many, stands in a block
 module _ (r : Reading) (h : Stack) (blocks named place : ℕ) (x : Finished) (work work' ordinates ordinates' records records' cards : List ℕ) (results depth : ℕ) where
   abbrev Stopping : Type 0
-  Stopping = (x.refusal ≡ 0 → ⊥) ⊎ (most_blocks ≤ blocks)
+  Stopping = (refusal_in x ≡ 0 → ⊥) ⊎ (most_blocks ≤ blocks)
 
-  none_stops : blocks ≡ 0 → x.refusal ≡ 0 → Stopping → ⊥
+  none_stops : blocks ≡ 0 → refusal_in x ≡ 0 → Stopping → ⊥
   none_stops none sound stops = ⊎_elim (λ some. some sound) (λ many. omega arith) stops
 
   outside_stops : (p : Phase) → blocks ≡ 0 → CountBy p blocks results depth → ClosedBy p r h blocks named place x work work' ordinates ordinates' records records' cards → Stopping → ⊥
-  outside_stops phase.BeforeTime none count c stops = none_stops none c.0 stops
-  outside_stops phase.BeforeBlocks none count c stops = none_stops none c.0 stops
+  outside_stops phase.BeforeTime none count c stops = none_stops none (ap refusal_in c.0) stops
+  outside_stops phase.BeforeBlocks none count c stops = none_stops none (ap refusal_in c.0) stops
   outside_stops phase.InBlock none count c stops = omega arith
 
 pub counted_in : (p p' : Phase) (r : Reading) (h : Stack) (blocks named place : ℕ) (x : Finished) (work work' ordinates ordinates' records records' cards : List ℕ) (results depth : ℕ)
     (lines : List (List ℕ)) (from : run.Reading) (listed : List ℕ) (ratios : ℕ) → RatiosBy p lines from listed ratios → CountBy p blocks results depth → CountBy p' blocks results depth
-    → ClosedBy p' r h blocks named place x work work' ordinates ordinates' records records' cards → (x.refusal ≡ 0 → ⊥) ⊎ (most_blocks ≤ blocks) → length (or_whole listed) ≡ ratios
+    → ClosedBy p' r h blocks named place x work work' ordinates ordinates' records records' cards → (refusal_in x ≡ 0 → ⊥) ⊎ (most_blocks ≤ blocks) → length (or_whole listed) ≡ ratios
 counted_in phase.BeforeTime p' r h blocks named place x work work' ordinates ordinates' records records' cards results depth lines from listed ratios h' count count' c stops =
     absurd (outside_stops r h blocks named place x work work' ordinates ordinates' records records' cards results depth p' count.0 count' c stops)
 counted_in phase.BeforeBlocks p' r h blocks named place x work work' ordinates ordinates' records records' cards results depth lines from listed ratios h' count count' c stops =

@@ -23,10 +23,9 @@ use Rattle.placing.specs.Readings.{reading_is, time_in, form_in, Ready, opened_i
 use Rattle.stack.specs.View.{view, length_held}
 use Rattle.results.specs.Records.{records_in}
 use Rattle.closing.specs.BetweenBlocks.{Carried, carried-named}
-use Rattle.turns.specs.declared.Finished.{Finished}
 use Rattle.turns.specs.declared.State.{State}
-use Rattle.turns.specs.declared.Turn.{Turn}
-use Rattle.turns.specs.Turns.{GoesOn, copied_last}
+use Rattle.refusals.specs.Numbers.{refusal_in}
+use Rattle.turns.specs.Turns.{Finished, stack_in, Opened, copied_last}
 use Rattle.walking.specs.Events.{open_refused, open_too_many, open_goes, end_refused, end_not_one, end_done}
 use Rattle.passes.specs.Apart.{ratio_count}
 use Rattle.passes.specs.One.{time_at}
@@ -66,10 +65,10 @@ module _ (deck : List ℕ) (named place n m : ℕ) (s : State) (work ordinates r
     walked : walk (Only place) lines from stand (s.line + 1) ≡ worked_under (Only place) deck
     walked = rw move.same g.walked
 
-    number : open_refusal q stand ≡ x.refusal
+    number : open_refusal q stand ≡ refusal_in x
     number = sym (closed_number named place n m r s.held s.blocks x work work' ordinates ordinates' records records' cards' g.results c)
 
-    module _ (lw : length work' ≡ length work) (lo : length ordinates' ≡ length ordinates) (lr : length records' ≡ length records) (none : x.refusal ≡ 0) where
+    module _ (lw : length work' ≡ length work) (lo : length ordinates' ≡ length ordinates) (lr : length records' ≡ length records) (none : refusal_in x ≡ 0) where
       pub well : ClosedWell named place n m q was r.time.ordinates x work' ordinates' records'
       well =
           closed_well named place n m r s.held s.blocks x work work' ordinates ordinates' records records' cards' g.results move.held move.carried lw lo lr none
@@ -78,9 +77,9 @@ module _ (deck : List ℕ) (named place n m : ℕ) (s : State) (work ordinates r
       pub as_many : length next-run.results ≡ s.blocks
       as_many = results_by r.phase (time_is r.time) (form_of r.free) (block_is r cards') was s.blocks s.held.depth move.count
 
-      pub depth_is : x.held.depth ≡ (closed q stand).waiting
+      pub depth_is : (stack_in x).depth ≡ (closed q stand).waiting
       depth_is =
-          sym (length_held r.time.ordinates x.held.areas x.held.depth work') ∙ ap length well.held-is
+          sym (length_held r.time.ordinates (stack_in x).areas (stack_in x).depth work') ∙ ap length well.held-is
           ∙ sym (one_left (time_is r.time) (form_of r.free) (block_is r cards') s.blocks was r.phase)
 
   -- KK
@@ -89,20 +88,20 @@ module _ (deck : List ℕ) (named place n m : ℕ) (s : State) (work ordinates r
     next = opened_in q (name_is name)
 
     -- a KK is refused in a block only, and the state there has the deck's ratios
-    pub kk_counted : (x.refusal ≡ 0 → ⊥) ⊎ (most_blocks ≤ s.blocks) → length (or_whole (listed_in s)) ≡ ratio_count deck
+    pub kk_counted : (refusal_in x ≡ 0 → ⊥) ⊎ (most_blocks ≤ s.blocks) → length (or_whole (listed_in s)) ≡ ratio_count deck
     kk_counted stopped =
         counted_in s.reading.phase r.phase (reading_under place r) s.held s.blocks named place x work work' ordinates ordinates' records records' cards'
         (length g.results) s.held.depth lines from (listed_in s) (ratio_count deck) g.ratios g.count (move (Open next) found).count c stopped
 
-    pub kk_refused : (x.refusal ≡ 0 → ⊥) → worked_under (Only place) deck ≡ Stopped x.refusal line
-    kk_refused some = sym (walked (Open next) found) ∙ open_refused (Only place) lines from stand (s.line + 1) next q line rest found x.refusal (number (Open next) found) some
+    pub kk_refused : (refusal_in x ≡ 0 → ⊥) → worked_under (Only place) deck ≡ Stopped (refusal_in x) line
+    kk_refused some = sym (walked (Open next) found) ∙ open_refused (Only place) lines from stand (s.line + 1) next q line rest found (refusal_in x) (number (Open next) found) some
 
-    pub kk_too_many : x.refusal ≡ 0 → most_blocks ≤ s.blocks → worked_under (Only place) deck ≡ Stopped 14 line
+    pub kk_too_many : refusal_in x ≡ 0 → most_blocks ≤ s.blocks → worked_under (Only place) deck ≡ Stopped 14 line
     kk_too_many z h = sym (walked (Open next) found) ∙ open_too_many (Only place) lines from stand (s.line + 1) next q line rest found (number (Open next) found ∙ z) h
 
     module _ (at : ℕ) (here : rest ≡ lines_of (drop at deck)) (up : at ≤ length deck) (counted : line ≤ at) (few : s.blocks < most_blocks)
-        (lw : length work' ≡ length work) (lo : length ordinates' ≡ length ordinates) (lr : length records' ≡ length records) (none : x.refusal ≡ 0)
-        (t : Turn) (cards'' : List ℕ) (goes : GoesOn r x.held name at line s.blocks t cards'') where
+        (lw : length work' ≡ length work) (lo : length ordinates' ≡ length ordinates) (lr : length records' ≡ length records) (none : refusal_in x ≡ 0)
+        (t : State) (cards'' : List ℕ) (goes : Opened r (stack_in x) name at line s.blocks t cards'') where
       after_it : Timed q
       after_it = (subst FoundTimed found (found-timed lines from (s.line + 1))).0
 
@@ -110,7 +109,7 @@ module _ (deck : List ℕ) (named place n m : ℕ) (s : State) (work ordinates r
       timed = timed_by r.phase (time_is r.time) (form_of r.free) (block_is r cards') after_it
 
       abbrev reading : Reading
-      reading = t.state.reading
+      reading = t.reading
 
       same_next : reading_is reading cards'' ≡ next
       same_next = goes.reading.is ∙ rw (timed.0, timed.1)
@@ -118,10 +117,10 @@ module _ (deck : List ℕ) (named place n m : ℕ) (s : State) (work ordinates r
       nq : reading.time.ordinates ≡ r.time.ordinates
       nq = ap (λ (u : times.Time). u.ordinates) goes.reading.time
 
-      run_is : next-run ≡ run_of place r x.held next-run.results work'
-      run_is = run_by r.phase (time_is r.time) (form_of r.free) (block_is r cards') was (view x.held r.time.ordinates work') (well (Open next) found lw lo lr none).held-is
+      run_is : next-run ≡ run_of place r (stack_in x) next-run.results work'
+      run_is = run_by r.phase (time_is r.time) (form_of r.free) (block_is r cards') was (view (stack_in x) r.time.ordinates work') (well (Open next) found lw lo lr none).held-is
 
-      more : one_more (Only place) q (closed q stand) ≡ standing phase.InBlock (s.blocks + 1) (run_of place r x.held next-run.results work')
+      more : one_more (Only place) q (closed q stand) ≡ standing phase.InBlock (s.blocks + 1) (run_of place r (stack_in x) next-run.results work')
       more =
           one_opened (time_is r.time) (form_of r.free) (block_is r cards') s.blocks was place r.phase
           (after-time r.phase (time_is r.time) (form_of r.free) (block_is r cards') after_it)
@@ -133,7 +132,7 @@ module _ (deck : List ℕ) (named place n m : ℕ) (s : State) (work ordinates r
           ratios_by s.reading.phase r.phase (time_is r.time) (form_of r.free) (block_is r cards') lines from (s.line + 1) next line rest (listed_in s) (ratio_count deck)
           s.blocks (length g.results) s.held.depth found after_it g.ratios g.count (move (Open next) found).count (move (Open next) found).listed
 
-      pub kk_goes : Going deck named place n m t.state work' ordinates' records' cards''
+      pub kk_goes : Going deck named place n m t work' ordinates' records' cards''
       kk_goes =
           let w = well (Open next) found lw lo lr none in
           let many = as_many (Open next) found lw lo lr none in
@@ -156,23 +155,23 @@ module _ (deck : List ℕ) (named place n m : ℕ) (s : State) (work ordinates r
 
   -- ZZ
   module _ (found : next_event lines from (s.line + 1) ≡ Met (End (time_in q)) q line rest) where
-    pub zz_refused : (x.refusal ≡ 0 → ⊥) → worked_under (Only place) deck ≡ Stopped x.refusal line
-    zz_refused some = sym (walked (End (time_in q)) found) ∙ end_refused (Only place) lines from stand (s.line + 1) (time_in q) q line rest found x.refusal (number (End (time_in q)) found) some
+    pub zz_refused : (refusal_in x ≡ 0 → ⊥) → worked_under (Only place) deck ≡ Stopped (refusal_in x) line
+    zz_refused some = sym (walked (End (time_in q)) found) ∙ end_refused (Only place) lines from stand (s.line + 1) (time_in q) q line rest found (refusal_in x) (number (End (time_in q)) found) some
 
-    module _ (lw : length work' ≡ length work) (lo : length ordinates' ≡ length ordinates) (lr : length records' ≡ length records) (none : x.refusal ≡ 0) where
-      depth : x.held.depth ≡ (closed q stand).waiting
+    module _ (lw : length work' ≡ length work) (lo : length ordinates' ≡ length ordinates) (lr : length records' ≡ length records) (none : refusal_in x ≡ 0) where
+      depth : (stack_in x).depth ≡ (closed q stand).waiting
       depth = depth_is (End (time_in q)) found lw lo lr none
 
-      pub zz_not_one : (x.held.depth ≡ 1 → ⊥) → worked_under (Only place) deck ≡ Stopped 15 line
+      pub zz_not_one : ((stack_in x).depth ≡ 1 → ⊥) → worked_under (Only place) deck ≡ Stopped 15 line
       zz_not_one other =
           sym (walked (End (time_in q)) found)
           ∙ end_not_one (Only place) lines from stand (s.line + 1) (time_in q) q line rest found (number (End (time_in q)) found ∙ none) (λ e. other (depth ∙ e))
 
-      module _ (one : x.held.depth ≡ 1) (ordinates'' : List ℕ)
-          (copied : ordinates'' ≡ copied_last named r.time.ordinates (part (most_ordinates * (x.held.depth - 1)) r.time.ordinates work') ordinates') where
+      module _ (one : (stack_in x).depth ≡ 1) (ordinates'' : List ℕ)
+          (copied : ordinates'' ≡ copied_last named r.time.ordinates (part (most_ordinates * ((stack_in x).depth - 1)) r.time.ordinates work') ordinates') where
         in_block : r.phase ≡ phase.InBlock
         in_block =
-            in_block_by r.phase (time_is r.time) (form_of r.free) (block_is r cards') was s.blocks s.held.depth r.time.ordinates x.held work'
+            in_block_by r.phase (time_is r.time) (form_of r.free) (block_is r cards') was s.blocks s.held.depth r.time.ordinates (stack_in x) work'
             (move (End (time_in q)) found).count (length_held r.time.ordinates s.held.areas s.held.depth work) (well (End (time_in q)) found lw lo lr none).held-is (omega arith)
 
         done : worked_under (Only place) deck ≡ Done (time_in q) (next-run.results ∷ [])
@@ -185,12 +184,12 @@ module _ (deck : List ℕ) (named place n m : ℕ) (s : State) (work ordinates r
         w = well (End (time_in q)) found lw lo lr none
 
         flow_by : (t : Bool) → (named =? 0) ≡ t → named ≤ length next-run.results → r.time.ordinates ≤ n
-            → copied_last named r.time.ordinates (part (most_ordinates * (x.held.depth - 1)) r.time.ordinates work') ordinates'
+            → copied_last named r.time.ordinates (part (most_ordinates * ((stack_in x).depth - 1)) r.time.ordinates work') ordinates'
             ≡ named_flow named next-run.results ++ replicate (n - r.time.ordinates) 0
         flow_by true e few room =
             let last : named ≡ 0 = eqb-true named 0 e in
             sym (taken _ e refl)
-            ∙ rw last (last_by r.phase (time_is r.time) (form_of r.free) (block_is r cards') was s.blocks s.held.depth place n m x.held work' ordinates' records'
+            ∙ rw last (last_by r.phase (time_is r.time) (form_of r.free) (block_is r cards') was s.blocks s.held.depth place n m (stack_in x) work' ordinates' records'
             (move (End (time_in q)) found).count (length_held r.time.ordinates s.held.areas s.held.depth work) w.held-is (omega arith) room
             (subst (λ (k : ℕ). Carried k place was.time n m next-run.results ordinates' records') last w.carried))
         flow_by false e few room =

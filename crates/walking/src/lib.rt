@@ -12,8 +12,9 @@ ghost use Rattle.walking.specs.Going.{MayFinish, Finishes, MayClose, ClosedBy, G
 use blocks::Ratios;
 use placing::{Phase, Reading};
 use reading::Event;
+use refusals::{Refusal, Refused};
 use stack::Stack;
-use turns::{Finished, State, Turn, Worked};
+use turns::{State, Turn, Worked};
 use writing::Asked;
 
 // The open block, before which `k` blocks were closed, closed; and, if it was not refused, its result written.
@@ -26,27 +27,31 @@ fn finish_block(
     ordinates: &mut [u64],
     records: &mut [u8],
     cards: &[u64],
-) -> Finished
+) -> Result<Stack, Refusal>
     requires { MayFinish r held k asked.place work.old cards.now }
     ensures { Finishes (time_is r.time) (block_is r cards.now) held asked.named asked.place k result work.old work.new ordinates.old ordinates.new records.old records.new }
 {
     let closed = closing::close_block(work, held, r.time, cards);
-    let next = closed.held;
-    let refusal = closed.refusal;
-    if refusal != 0 {
-        return Finished {
-            refusal,
-            held: next,
-        };
+    if closed.refusal != 0 {
+        return Err(Refusal::LittleWork);
     }
     writing::write_result(r.name, closed, k, asked, r.time, work, ordinates, records);
-    Finished {
-        refusal,
-        held: next,
+    Ok(closed.held)
+}
+
+// The reading with the ratio at that place in force.
+fn read_under(r: Reading, place: usize) -> Reading
+    requires { r.time.ratios.count ≤ 9 }
+    ensures { result ≡ reading_under place r }
+{
+    let ratio = blocks::ratio_at(r.time.ratios, place);
+    Reading {
+        time: blocks::under(r.time, ratio),
+        ..r
     }
 }
 
-// Where KK or ZZ closes a block, if one is open.
+// Where KK or ZZ closes a block under a ratio, if one is open.
 fn close_open(
     r: Reading,
     held: Stack,
@@ -56,41 +61,25 @@ fn close_open(
     ordinates: &mut [u64],
     records: &mut [u8],
     cards: &[u64],
-) -> Finished
-    requires { MayClose r held blocks asked.place work.old cards.now }
-    ensures { ClosedBy r.phase r held blocks asked.named asked.place result work.old work.new ordinates.old ordinates.new records.old records.new cards.now }
+) -> Result<Stack, Refusal>
+    requires { MayClose (reading_under asked.place r) held blocks asked.place work.old cards.now }
+    ensures { ClosedBy r.phase (reading_under asked.place r) held blocks asked.named asked.place result work.old work.new ordinates.old ordinates.new records.old records.new cards.now }
 {
-    let phase = r.phase;
-    match phase {
-        Phase::BeforeTime => Finished {
-            refusal: 0,
-            held: held,
-        },
-        Phase::BeforeBlocks => Finished {
-            refusal: 0,
-            held: held,
-        },
+    match r.phase {
+        Phase::BeforeTime | Phase::BeforeBlocks => Ok(held),
         Phase::InBlock => {
-            let k = blocks - 1;
-            finish_block(r, held, k, asked, work, ordinates, records, cards)
+            let under = read_under(r, asked.place);
+            finish_block(
+                under,
+                held,
+                blocks - 1,
+                asked,
+                work,
+                ordinates,
+                records,
+                cards,
+            )
         }
-    }
-}
-
-// The reading with the ratio at that place in force.
-fn read_under(r: Reading, place: usize) -> Reading
-    requires { r.time.ratios.count ≤ 9 }
-    ensures { result ≡ reading_under place r }
-{
-    let phase = r.phase;
-    let name = r.name;
-    let time = r.time;
-    let ratios = time.ratios;
-    Reading {
-        phase: phase,
-        free: r.free,
-        time: blocks::under(time, blocks::ratio_at(ratios, place)),
-        name: name,
     }
 }
 
@@ -104,57 +93,46 @@ fn step(
     ordinates: &mut [u64],
     records: &mut [u8],
     cards: &mut [u64],
-) -> Turn
+) -> Result<Turn, Refused>
     requires { Going deck.now named place (length ordinates.old) (length records.old) s work.old ordinates.old records.old cards.old }
     ensures { TurnIs deck.now named place (length ordinates.old) (length records.old) s result work.new ordinates.new records.new cards.new }
 {
     let got = reading::read_on(deck, s.at, s.line, s.reading, cards);
-    let event = got.event;
-    let ended = match event {
-        Event::Refused(number) => return turns::stop(s, number, got.line),
-        Event::Opened => false,
-        Event::Ended => true,
-        Event::Missing => return turns::stop(s, 16, 0),
-    };
-    let closed = close_open(
-        read_under(got.reading, place),
-        s.held,
-        s.blocks,
-        Asked { named, place },
-        work,
-        ordinates,
-        records,
-        cards,
-    );
-    if ended {
-        return turns::end_deck(
-            s,
-            got.reading.time.ordinates,
-            got.line,
-            closed,
-            named,
-            work,
-            ordinates,
-        );
+    let line = got.line;
+    let r = got.reading;
+    let asked = Asked { named, place };
+    match got.event {
+        Event::Opened(name) => {
+            let closed = close_open(r, s.held, s.blocks, asked, work, ordinates, records, cards);
+            let next = turns::open_next(s, r, name, got.at, line, closed, cards)?;
+            Ok(Turn::GoesOn(next))
+        }
+        Event::Ended => {
+            let closed = close_open(r, s.held, s.blocks, asked, work, ordinates, records, cards);
+            let worked = turns::end_deck(
+                s,
+                r.time.ordinates,
+                line,
+                closed,
+                named,
+                work,
+                ordinates,
+            )?;
+            Ok(Turn::Ended(worked))
+        }
+        Event::Refused(refusal) => Err(Refused { refusal, line }),
+        Event::Missing => Err(Refused {
+            refusal: Refusal::NoLastLine,
+            line: 0,
+        }),
     }
-    turns::open_next(s, got.reading, got.name, got.at, got.line, closed, cards)
 }
 
 // A deck walked: what it came to, and the ratios in force where it did, none before its first block.
 #[derive(Clone, Copy)]
 pub struct Walked {
-    pub worked: Worked,
+    pub worked: Result<Worked, Refused>,
     pub ratios: Ratios,
-}
-
-// The ratios that a state has.
-fn ratios_in(s: State) -> Ratios
-    ensures { result ≡ s.reading.time.ratios }
-{
-    let reading = s.reading;
-    let time = reading.time;
-    let ratios = time.ratios;
-    ratios
 }
 
 // The whole deck, block after block, under the ratio at a place. What is lent for results holds zeros before.
@@ -174,12 +152,15 @@ pub fn walk_deck(
 {
     let mut s = turns::first_state(cards);
     loop {
-        let t = step(deck, named, place, s, work, ordinates, records, cards);
-        if t.ended {
-            let worked = t.worked;
-            let ratios = ratios_in(s);
-            return Walked { worked, ratios };
-        }
-        s = t.state;
+        let worked = match step(deck, named, place, s, work, ordinates, records, cards) {
+            Ok(Turn::GoesOn(next)) => {
+                s = next;
+                continue;
+            }
+            Ok(Turn::Ended(worked)) => Ok(worked),
+            Err(refused) => Err(refused),
+        };
+        let ratios = s.reading.time.ratios;
+        return Walked { worked, ratios };
     }
 }
