@@ -3,7 +3,7 @@
 --     goes_on, event_met    and what reading on comes to by them
 --     pass-read      a pass over its fields that met no fault
 --     pass_fault     and one that met one
-use Rattle.std.specs.Prelude.{ℕ, ◌+◌, ◌≤◌, ◌≡◌, refl, true, false, List, [], ◌∷◌, drop, Option, None, Some, Result, Ok, Err}
+use Rattle.std.specs.Prelude.{ℕ, zero, suc, ◌+◌, ◌≤◌, ◌≡◌, refl, Bool, true, false, List, [], ◌∷◌, drop, Option, None, Some, Result, Ok, Err}
 use Rattle.std.proofs.Math.Path.{sym}
 use Rattle.std.proofs.Common.{ap, ◌∙◌, arith}
 use Rattle.meaning.specs.Lines.{foreign, lines_of}
@@ -15,7 +15,7 @@ use Rattle.meaning.specs.Run as run
 use Rattle.meaning.specs.Run.{Event, Refuse, Go, Open, End, unless, time_refusal, ratio_refusal, item_refusal, name_refusal, read_line}
 use Rattle.events.specs.NextEvent.{Found, Missing, Met, met_by, next_event}
 use Rattle.refusals.specs.declared.Refusal.{Refusal}
-use Rattle.lines.specs.First.{FairAt}
+use Rattle.lines.specs.First.{FairAt, ForeignAt}
 use Rattle.fields.specs.Spans.{form_of, first_place}
 use Rattle.identifiers.specs.Passed.{foreign-head}
 use Rattle.records.specs.Rows.{field_row, rules_by, ratio_scan, block_row, few_rules, span_in}
@@ -31,6 +31,7 @@ use Rattle.placing.specs.declared.Reading.{Reading}
 use Rattle.placing.specs.Readings.{reading_by, reading_is, opened_in, Ready}
 use Rattle.placing.specs.Places.{Due, fields_event, name_event}
 use Rattle.taking.specs.Ratios.{ratio_faults}
+use Rattle.sorting.specs.Sorted.{with_free}
 use Rattle.reading.specs.declared.Event as coded
 use Rattle.reading.specs.declared.Event.TheVariants as coded-event
 use Rattle.reading.specs.Found.{Gets}
@@ -86,6 +87,11 @@ pub foreign_refused : (q : run.Reading) (l : List ℕ) → foreign l ≡ true �
 unfolding read_line
 foreign_refused q l h = rw (foreign-head l h)
 
+pub foreign-found : (s : List ℕ) (at n : ℕ) (q : run.Reading) (f : Found) → ForeignAt s at → next_event (lines_of (drop at s)) q (n + 1) ≡ f
+    → (p : run.Reading) × (later : List (List ℕ)) × (f ≡ Met (Refuse 3) p (n + 1) later)
+unfolding next_event read_line
+foreign-found s at n q f a e = (q, a.rest, sym (rw (a.lines, foreign-head a.line a.met) at e))
+
 -- and one that is not: where the next one begins
 pub fair_behind : {s : List ℕ} {at end next : ℕ} → FairAt s at end next → (x : Result (Option coded.Event) Refusal) → Behind s at next (lines_of (drop next s)) x
 fair_behind f (Ok x) = (f.goes_on, f.within, refl)
@@ -132,6 +138,10 @@ pub fault_event : (item : Item) (r : Reading) (w : List ℕ) (fs : List (List �
     → fields_event item (reading_is r w) fs ≡ Refuse 6
 fault_event item r w fs due e = fault_by r.phase item (time_is r.time) (form_of r.free) (name_is r.name) w fs due e
 
+-- THE READING IN ANOTHER FORM
+pub ready_form : {r : Reading} {w : List ℕ} (free : Bool) → Ready r w → Ready (with_free r free) w
+ready_form free k = record { few_ordinates = k.few_ordinates; few-ratios = k.few-ratios; short-name = k.short-name; readable = k.readable; counted = k.counted }
+
 -- NAMES
 pub name_bad : (q : run.Reading) (name : List ℕ) → bad_name name ≡ true → name_event q name ≡ Refuse 6
 unfolding name_refusal
@@ -140,6 +150,14 @@ name_bad q name e = rw e
 pub name_good : (q : run.Reading) (name : List ℕ) → bad_name name ≡ false → name_event q name ≡ Open (opened_in q name)
 unfolding name_refusal
 name_good q name e = rw e
+
+-- a refusal that is met
+pub unless-met : (n : ℕ) (e : Event) → (n ≡ 0 → ⊥) → unless n e ≡ Refuse n
+unless-met zero e h = absurd (h refl)
+unless-met (suc n) e h = refl
+
+pub unless_none : (n : ℕ) (e : Event) → n ≡ 0 → unless n e ≡ e
+unless_none n e z = rw z
 
 -- ONE FIELD NOTED
 module _ (rules : List records.Rule) (i : ℕ) (f : List ℕ) (later all : List (List ℕ)) where

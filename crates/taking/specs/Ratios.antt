@@ -3,8 +3,8 @@
 --     ratio_outside    the pass met a value outside its limits: refusal 7
 --     ratio_number     it met none: refusal 7 where no ratio is there, or a 0 among them
 --     ratio-listed     the ratios are what the pass kept behind the word
-use Rattle.std.specs.Prelude.{ℕ, zero, suc, ◌+◌, ◌-◌, ◌≤◌, ◌<◌, ◌≡◌, refl, Bool, true, false, ◌||◌, List, [], ◌∷◌, ◌++◌, length, take, drop, replicate}
-use Rattle.std.proofs.Common.{sym, ap, ◌∙◌, true≢false, append-nil, arith, lt-ltb, le-ltb, ltb-false, ne_eqb, length-append, take-take}
+use Rattle.std.specs.Prelude.{ℕ, zero, suc, ◌+◌, ◌-◌, ◌≤◌, ◌<◌, ◌≡◌, refl, Bool, true, false, ◌||◌, List, [], ◌∷◌, ◌++◌, length, take, drop, get_or, replicate}
+use Rattle.std.proofs.Common.{sym, ap, ◌∙◌, true≢false, append-nil, arith, add-one, lt-ltb, le-ltb, ltb-false, eq-eqb, ne_eqb, length-append, drop_of_length-le, take-take, drop-cons}
 use Rattle.std.specs.List.{list_any}
 use Rattle.std.proofs.Math.Bool.{or_assoc, or-false, or-true}
 use Rattle.std.proofs.lemmas.List.{length-replicate, get_or-replicate}
@@ -22,6 +22,18 @@ use Rattle.scanning.specs.WholeLine.{filled_split, LineRead}
 
 abbrev pub any_zero : List ℕ → Bool
 any_zero vs = list_any (λ v. v =? 0) vs
+
+-- by its first element
+module _ (vs : List ℕ) (i : ℕ) where
+  module _ (h : i < length vs) where
+    pub zero-here : get_or vs i 0 ≡ 0 → any_zero (drop i vs) ≡ true
+    zero-here e = rw (drop-cons vs i 0 h, eq-eqb _ _ e)
+
+    pub zero-later : (get_or vs i 0 ≡ 0 → ⊥) → any_zero (drop i vs) ≡ any_zero (drop (i + 1) vs)
+    zero-later e = rw (add-one, drop-cons vs i 0 h, ne_eqb _ _ e)
+
+  pub zero_nowhere : length vs ≤ i → any_zero (drop i vs) ≡ false
+  zero_nowhere h = rw (drop_of_length-le vs h)
 
 -- the ratios that the pass kept: those behind the word, up to the last field that is not blank
 abbrev pub kept_ratios : (count : ℕ) → List ℕ → List ℕ
