@@ -1,7 +1,7 @@
 -- What the run carries from block to block: the results so far as the ordinates and the records have them, and what is held.
 --     Carried           ordinates and records, with carried_none, carried_more, and, at an accepted end, carried-named and carried_last
 --     HeldAfter         what is held after so many blocks, with held_none, held_more, held-within; depth-after, last_flow
-use Rattle.std.specs.Prelude.{ℕ, ◌+◌, ◌-◌, ◌*◌, ◌≤◌, ◌≡◌, refl, List, [], ◌∷◌, ◌++◌, length, replicate}
+use Rattle.std.specs.Prelude.{ℕ, ◌+◌, ◌-◌, ◌*◌, ◌≤◌, ◌≡◌, refl, List, [], ◌∷◌, ◌++◌, length, replicate, Ok}
 use Rattle.std.proofs.Common.{zero-le, sym, ap, ◌∙◌, ⊎_elim, arith, le-leb, length-append}
 use Rattle.std.proofs.lemmas.List.{length-replicate}
 use Rattle.sequences.specs.Choices.{taken, below_or_not}
@@ -43,12 +43,12 @@ carried_none named place τ n m =
 
 -- by a block that is closed and not refused, once its result is written
 module _ {τ : Time} {b : Block} {s : Stack} {named place : ℕ} {n m : ℕ} (rs : List Result) {c : Closed} {w w' ordinates ordinates' records records' : List ℕ} where
-  pub carried_more : Closes τ b s w c w' → c.refusal ≡ 0 → length b.name ≤ 6
+  pub carried_more : Closes τ b s w (Ok c) w' → length b.name ≤ 6
       → ordinates' ≡ copied_named named (length rs) τ.ordinates (part (most_ordinates * (c.held.depth - 1)) τ.ordinates w') ordinates
       → records' ≡ record_put (length rs) (record_told b.name τ.ratio (place + 1) c) records
       → length ordinates' ≡ length ordinates → length records' ≡ length records → Carried named place τ n m rs ordinates records
       → Carried named place τ n m (rs ++ (result_of τ b s w ∷ [])) ordinates' records'
-  carried_more closes none short eo er lo lr so_far =
+  carried_more closes short eo er lo lr so_far =
       let next = result_of τ b s w in
       let ratio = τ.ratio in
       let long : length (rs ++ (next ∷ [])) ≡ length rs + 1 = length-append rs (next ∷ []) in
@@ -57,10 +57,10 @@ module _ {τ : Time} {b : Block} {s : Stack} {named place : ℕ} {n m : ℕ} (rs
         n-long = lo ∙ so_far.n-long;
         m-long = lr ∙ so_far.m-long;
         flow =
-            eo ∙ ap (λ (q : List ℕ). copied_named named (length rs) τ.ordinates q ordinates) (told_flow closes none)
+            eo ∙ ap (λ (q : List ℕ). copied_named named (length rs) τ.ordinates q ordinates) (told_flow closes)
             ∙ ordinates_more named τ.ordinates n rs next so_far.n-long so_far.flow;
         told = λ room.
-            er ∙ ap (λ (q : List ℕ). record_put (length rs) q records) (told_record closes none ratio (place + 1))
+            er ∙ ap (λ (q : List ℕ). record_put (length rs) q records) (told_record closes ratio (place + 1))
             ∙ sym (taken _ (le-leb (record_size * length rs + record_size) (length records) (omega (arith, so_far.m-long))) refl)
             ∙ ap (λ (z : List ℕ). put (record_size * length rs) record_size z (record_of ratio (place + 1) next)) (so_far.told (omega arith))
             ∙ record_more ratio (place + 1) m rs next so_far.names short;

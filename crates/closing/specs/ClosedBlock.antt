@@ -1,9 +1,9 @@
 -- A block closed: the answer, and what is held then.
 --     answer_by            the answer, told by the refusal
---     Closes              the outcome: the answer and the words; and of what is held then, Keeps
+--     Closes              the outcome: the refusal, the answer and the words; and of what is held then, Keeps
 --     closes_by_shape     how it comes about: refused by its shape,
 --     closes_by_rise, closes_by_flow, closes_held     or made and held, and then refused by 20, by 13 or not
-use Rattle.std.specs.Prelude.{ℕ, zero, suc, ◌+◌, ◌-◌, ◌≤◌, ◌<◌, ◌≡◌, refl, true, false, length}
+use Rattle.std.specs.Prelude.{ℕ, zero, suc, ◌+◌, ◌≤◌, ◌<◌, ◌≡◌, refl, true, false, length, Result, Ok, Err, IfOk}
 use Rattle.std.proofs.Common.{sym, ◌∙◌, arith, length-drop}
 use Rattle.std.proofs.Math.Path.{ap, subst}
 use mathlib.Core.List.{List}
@@ -12,12 +12,15 @@ use Rattle.meaning.specs.Water.{flow_limit}
 use Rattle.meaning.specs.Blocks.{Time, Block, Kind, kind_number, kind_of, takes, Held, total, overtops}
 use Rattle.meaning.specs.Results.{peak_of}
 use Rattle.meaning.specs.Run.{taken_by, held_for, held_after, shape_refusal, flow_refusal}
+use Rattle.refusals.specs.declared.Refusal.{Refusal}
+use Rattle.refusals.specs.declared.Refusal.TheVariants as refusal
+use Rattle.refusals.specs.Numbers.{refusal_number, refusal_in, named_by, named_back, some_number}
 use Rattle.passes.specs.One.{closing_under}
 use Rattle.stack.specs.declared.Stack.{Stack}
 use Rattle.stack.specs.View.{view, length_held}
 use Rattle.stack.specs.Limits.{Within}
 use Rattle.summary.specs.declared.Summary.{Summary}
-use Rattle.summary.specs.Summary.{summary_of, no_summary}
+use Rattle.summary.specs.Summary.{summary_of}
 use Rattle.shaping.specs.Limits.{CardsWithin}
 use Rattle.shaping.specs.Shapes.{takes-by, shaped_passes}
 use Rattle.making.specs.Made.{stack_by, words_by, Makes}
@@ -25,15 +28,15 @@ use Rattle.telling.specs.declared.Closed.{Closed}
 use Rattle.telling.specs.LastHeld.{Last, view_last}
 use Rattle.closing.specs.Sizes.{area_after, within_after}
 
-abbrev pub refused_block : ℕ → Stack → Closed
-refused_block n s = record { refusal = n; held = s; kind = 0; area = 0; summary = no_summary }
+abbrev pub refused_block : ℕ → Result Closed Refusal
+refused_block n = Err (named_by n)
 
 abbrev pub closed_block : Kind → Block → Stack → Held → Closed
-closed_block k b s h = record { refusal = 0; held = stack_by k b s; kind = kind_number k; area = h.area; summary = summary_of h.flow }
+closed_block k b s h = record { held = stack_by k b s; kind = kind_number k; area = h.area; summary = summary_of h.flow }
 
-abbrev pub answer_by : (refusal : ℕ) → Kind → Block → Stack → Held → Closed
-answer_by zero k b s h = closed_block k b s h
-answer_by (suc n) k b s h = refused_block (suc n) s
+abbrev pub answer_by : (refusal : ℕ) → Kind → Block → Stack → Held → Result Closed Refusal
+answer_by zero k b s h = Ok (closed_block k b s h)
+answer_by (suc n) k b s h = refused_block (suc n)
 
 abbrev pub words_after : (refusal : ℕ) → Kind → Time → Block → Stack → List ℕ → List ℕ
 words_after zero k τ b s w = words_by k τ b s w
@@ -47,10 +50,12 @@ pub record Keeps (τ : Time) (b : Block) (before : List Held) (next : Stack) (w 
   pub flows : Within (view next τ.ordinates w)
   pub areas : (total (view next τ.ordinates w)).area ≤ (total before).area + 999_999
 
-pub record Closes (τ : Time) (b : Block) (s : Stack) (w : List ℕ) (r : Closed) (w' : List ℕ) : Type 0 where
+-- A refusal leaves what was held before as it was: nothing else is answered.
+pub record Closes (τ : Time) (b : Block) (s : Stack) (w : List ℕ) (r : Result Closed Refusal) (w' : List ℕ) : Type 0 where
+  pub number : refusal_in r ≡ closing_under τ b (view s τ.ordinates w)
   pub answer : r ≡ answer_by (closing_under τ b (view s τ.ordinates w)) (kind_of b) b s (held_for τ b (view s τ.ordinates w))
   pub words : w' ≡ words_after (shape_refusal τ b s.depth) (kind_of b) τ b s w
-  pub keeps : r.refusal ≡ 0 → Keeps τ b (view s τ.ordinates w) r.held w'
+  pub keeps : IfOk r (λ c. Keeps τ b (view s τ.ordinates w) c.held w')
 
 -- the refusal
 pub closing_shape : (τ : Time) (b : Block) (held : List Held) (n : ℕ) → (n ≡ 0 → ⊥) → shape_refusal τ b (length held) ≡ n → closing_under τ b held ≡ n
@@ -62,16 +67,16 @@ closing_flow τ b held e = rw e
 
 -- the answer
 module _ (k : Kind) (b : Block) (s : Stack) (h : Held) where
-  pub answer-refused : (n : ℕ) → (n ≡ 0 → ⊥) → refused_block n s ≡ answer_by n k b s h
-  answer-refused zero some = absurd (some refl)
-  answer-refused (suc n) some = refl
+  answer_some : (n : ℕ) → (n ≡ 0 → ⊥) → refused_block n ≡ answer_by n k b s h
+  answer_some zero some = absurd (some refl)
+  answer_some (suc n) some = refl
 
-  pub answer_number : (n : ℕ) → (answer_by n k b s h).refusal ≡ n
-  answer_number zero = refl
-  answer_number (suc n) = refl
+  pub answer-refused : (x : Refusal) → Err x ≡ answer_by (refusal_number x) k b s h
+  answer-refused x = ap Err (sym (named_back x)) ∙ answer_some (refusal_number x) (some_number x)
 
-  pub answer_none : (n : ℕ) {r : Closed} → r ≡ answer_by n k b s h → r.refusal ≡ 0 → r ≡ closed_block k b s h
-  answer_none n e z = e ∙ ap (λ (m : ℕ). answer_by m k b s h) (sym (answer_number n) ∙ sym (ap (λ (r : Closed). r.refusal) e) ∙ z)
+  pub answer_none : (n : ℕ) {c : Closed} → Ok c ≡ answer_by n k b s h → 0 ≡ n → c ≡ closed_block k b s h
+  answer_none zero e z = cc
+  answer_none (suc n) e z = absurd (omega (arith, z))
 
 unmade : (k : Kind) (τ : Time) (b : Block) (s : Stack) (w : List ℕ) (n : ℕ) → (n ≡ 0 → ⊥) → w ≡ words_after n k τ b s w
 unmade k τ b s w zero some = absurd (some refl)
@@ -85,16 +90,19 @@ module _ (τ : Time) (b : Block) (s : Stack) (w : List ℕ) where
   shape : shape_refusal τ b (length before) ≡ shape_refusal τ b s.depth
   shape = ap (shape_refusal τ b) (length_held τ.ordinates s.areas s.depth w)
 
-  answered : {n : ℕ} → closing_under τ b before ≡ n → answer_by n (kind_of b) b s (held_for τ b before) ≡ answer_by (closing_under τ b before) (kind_of b) b s (held_for τ b before)
-  answered e = ap (λ (m : ℕ). answer_by m (kind_of b) b s (held_for τ b before)) (sym e)
-
-  pub closes_by_shape : (n : ℕ) {r : Closed} → n ≡ shape_refusal τ b s.depth → (n ≡ 0 → ⊥) → r ≡ refused_block n s → Closes τ b s w r w
-  closes_by_shape n is some e =
+  refused_by : (x : Refusal) {w' : List ℕ} → closing_under τ b before ≡ refusal_number x → w' ≡ words_after (shape_refusal τ b s.depth) (kind_of b) τ b s w → Closes τ b s w (Err x) w'
+  refused_by x e words =
       record {
-        answer = e ∙ answer-refused (kind_of b) b s (held_for τ b before) n some ∙ answered (closing_shape τ b before n some (shape ∙ sym is));
-        words = unmade (kind_of b) τ b s w n some ∙ ap (λ (m : ℕ). words_after m (kind_of b) τ b s w) is;
-        keeps = λ z. absurd (some (sym (ap (λ (r : Closed). r.refusal) e) ∙ z));
+        number = sym e;
+        answer = answer-refused (kind_of b) b s (held_for τ b before) x ∙ ap (λ (m : ℕ). answer_by m (kind_of b) b s (held_for τ b before)) (sym e);
+        words = words;
+        keeps = tt;
       }
+
+  pub closes_by_shape : (x : Refusal) → refusal_number x ≡ shape_refusal τ b s.depth → Closes τ b s w (Err x) w
+  closes_by_shape x is =
+      refused_by x (closing_shape τ b before _ (some_number x) (shape ∙ sym is))
+      (unmade (kind_of b) τ b s w _ (some_number x) ∙ ap (λ (m : ℕ). words_after m (kind_of b) τ b s w) is)
 
   -- it is made, and then its flows are looked at
   module _ (none : shape_refusal τ b s.depth ≡ 0) (next : Stack) (w' : List ℕ) (makes : Makes τ b s w next w') where
@@ -113,28 +121,29 @@ module _ (τ : Time) (b : Block) (s : Stack) (w : List ℕ) where
         omega
         (arith, room, takes-by b refl, length_held τ.ordinates next.areas next.depth w', ap length makes.held, length-drop (takes b) before)
 
-    pub closes_by_rise : {r : Closed} → overtops τ b (taken_by b before) ≡ true → r ≡ refused_block 20 s → Closes τ b s w r w'
+    pub closes_by_rise : overtops τ b (taken_by b before) ≡ true → Closes τ b s w (Err refusal.Overtopped) w'
     unfolding flow_refusal
-    closes_by_rise rises e =
-        let refusal : closing_under τ b before ≡ 20 = closing_flow τ b before sound ∙ rw rises in
-        record { answer = e ∙ answered refusal; words = words-made; keeps = λ z. absurd (omega (arith, ap (λ (r : Closed). r.refusal) e)) }
+    closes_by_rise rises =
+        let twenty : closing_under τ b before ≡ 20 = closing_flow τ b before sound ∙ rw rises in
+        refused_by refusal.Overtopped twenty words-made
 
-    pub closes_by_flow : {r : Closed} → overtops τ b (taken_by b before) ≡ false → flow_limit < peak_of (held_for τ b before).flow → r ≡ refused_block 13 s → Closes τ b s w r w'
+    pub closes_by_flow : overtops τ b (taken_by b before) ≡ false → flow_limit < peak_of (held_for τ b before).flow → Closes τ b s w (Err refusal.FlowAboveLimit) w'
     unfolding flow_refusal
-    closes_by_flow stays high e =
-        let refusal : closing_under τ b before ≡ 13 = closing_flow τ b before sound ∙ rw (stays, lt-ltb flow_limit (peak_of (held_for τ b before).flow) high) in
-        record { answer = e ∙ answered refusal; words = words-made; keeps = λ z. absurd (omega (arith, ap (λ (r : Closed). r.refusal) e)) }
+    closes_by_flow stays high =
+        let thirteen : closing_under τ b before ≡ 13 = closing_flow τ b before sound ∙ rw (stays, lt-ltb flow_limit (peak_of (held_for τ b before).flow) high) in
+        refused_by refusal.FlowAboveLimit thirteen words-made
 
     pub closes_held : {kind area : ℕ} {summary : Summary} → overtops τ b (taken_by b before) ≡ false → CardsWithin b → Within before → kind ≡ kind_number (kind_of b) → area ≡ (held_for τ b before).area
         → summary ≡ summary_of (held_for τ b before).flow → peak_of (held_for τ b before).flow ≤ flow_limit
-        → Closes τ b s w (record { refusal = 0; held = next; kind = kind; area = area; summary = summary }) w'
+        → Closes τ b s w (Ok (record { held = next; kind = kind; area = area; summary = summary })) w'
     unfolding flow_refusal
     closes_held stays cards flows ek ea es low =
-        let refusal : closing_under τ b before ≡ 0 = closing_flow τ b before sound ∙ rw (stays, le-ltb flow_limit (peak_of (held_for τ b before).flow) low) in
+        let none : closing_under τ b before ≡ 0 = closing_flow τ b before sound ∙ rw (stays, le-ltb flow_limit (peak_of (held_for τ b before).flow) low) in
         record {
-          answer = rw (makes.stack, ek, ea, es) (answered refusal);
+          number = sym none;
+          answer = rw (makes.stack, ek, ea, es) (ap (λ (m : ℕ). answer_by m (kind_of b) b s (held_for τ b before)) (sym none));
           words = words-made;
-          keeps = λ z.
+          keeps =
               record {
                 some = made_last.some;
                 deep = made_deep;
