@@ -40,10 +40,8 @@ fn write_hydrograph(out: &mut [u8], minutes: u64, flows: &[u64]) -> usize
     ensures { Written out.old 0 (hydrograph_text minutes flows.now) out.new result }
 {
     let mut at = text::write_text(out, 0, b"interval,minutes,cfs,units\n");
-    let mut i = 0;
-    while i < flows.len() {
-        at = write_ordinate(out, at, minutes, i as u64, flows[i]);
-        i += 1;
+    for (i, &flow) in flows.iter().enumerate() {
+        at = write_ordinate(out, at, minutes, i as u64, flow);
     }
     at
 }

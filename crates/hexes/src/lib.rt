@@ -28,10 +28,8 @@ pub fn write_bytes(out: &mut [u8], start: usize, bytes: &[u8]) -> usize
     ensures short { result ≤ start + byte_size * length bytes.now + 1 }
 {
     let mut at = start;
-    let mut i = 0;
-    while i < bytes.len() {
-        at = write_hex(out, at, bytes[i]);
-        i += 1;
+    for &byte in bytes {
+        at = write_hex(out, at, byte);
     }
     text::write_byte(out, at, b'\n')
 }

@@ -21,11 +21,8 @@ fn write_lines(out: &mut [u8], start: usize, records: &[u8], blocks: usize) -> u
     ensures { Written out.old start (lines_to blocks records.now) out.new result }
 {
     let mut at = start;
-    let mut k = 0;
-    while k < blocks {
-        let p = RECORD * k;
-        at = figures::write_line(out, at, &records[p..p + RECORD]);
-        k += 1;
+    for record in records[..RECORD * blocks].chunks_exact(RECORD) {
+        at = figures::write_line(out, at, record);
     }
     at
 }
@@ -55,11 +52,9 @@ fn write_ratios(out: &mut [u8], records: &[u8], blocks: usize, ratios: &[u64]) -
     ensures { Written out.old 0 (under_to (length ratios.now) ratios.now blocks records.now) out.new result }
 {
     let mut at = 0;
-    let mut i = 0;
-    while i < ratios.len() {
+    for (i, &ratio) in ratios.iter().enumerate() {
         let p = RECORD * (blocks * i);
-        at = write_under(out, at, ratios[i], &records[p..], blocks);
-        i += 1;
+        at = write_under(out, at, ratio, &records[p..], blocks);
     }
     at
 }
@@ -69,7 +64,7 @@ fn write_blocks(out: &mut [u8], records: &[u8], blocks: usize, ratios: &[u64]) -
     requires { Roomy ratios.now blocks (length records.now) (length out.old) }
     ensures { Written out.old 0 (blocks_text ratios.now blocks records.now) out.new result }
 {
-    if ratios.len() == 0 {
+    if ratios.is_empty() {
         return write_lines(out, 0, records, blocks);
     }
     write_ratios(out, records, blocks, ratios)

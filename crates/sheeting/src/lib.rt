@@ -13,7 +13,7 @@ ghost use Rattle.blocks.specs.Cards.{block_of};
 ghost use Rattle.shaping.specs.Limits.{Read};
 ghost use Rattle.text.specs.Written.{Written};
 ghost use Rattle.text.specs.Counted.{Counted};
-ghost use Rattle.sheets.specs.Tables.{Ruled, ruled};
+ghost use Rattle.sheets.specs.Tables.{RuledColumns, columns_are};
 ghost use Rattle.finding.specs.Place.{block_at};
 ghost use Rattle.listing.specs.Naming.{number_of};
 ghost use Rattle.sheeting.specs.Sizes.{sheet_size};
@@ -23,47 +23,21 @@ use answers::Answer;
 use blocks::{Name, Time};
 use cells::Measure;
 use listing::{ORDINATES, RECORDS};
+use sheets::Columns;
 
 // The bytes that any sheet has room in: two tables with their titles.
 pub const SHEET: usize = 2 * (sheets::TITLE + sheets::TABLE);
 
 // The tables of a block in both measures, from its columns.
-fn write_tables(
-    out: &mut [u8],
-    ratio: u64,
-    name: &[u8],
-    units: &[u64],
-    rains: &[u64],
-    losses: &[u64],
-    excesses: &[u64],
-    sums: &[u64],
-) -> usize
-    requires ruled { Ruled units.now rains.now losses.now excesses.now }
-    requires sums_len { (length sums.now ≡ length excesses.now) × (length excesses.now ≤ most_ordinates) × (length name.now ≤ 6) × (sheet_size ≤ length out.old) }
-    ensures { Written out.old 0 (block_text ratio name.now (ruled units.now rains.now losses.now excesses.now) sums.now) out.new result }
+fn write_tables(out: &mut [u8], ratio: u64, name: &[u8], columns: &Columns) -> usize
+    requires ruled { RuledColumns columns.now }
+    requires sums_len { (length columns.now.sums.now ≡ length columns.now.excesses.now) × (length columns.now.excesses.now ≤ most_ordinates) × (length name.now ≤ 6) × (sheet_size ≤ length out.old) }
+    ensures { Written out.old 0 (block_text ratio name.now (columns_are columns.now) columns.now.sums.now) out.new result }
 {
     let exact = sheets::write_title(out, 0, Measure::Units, ratio, name);
-    let next = sheets::write_table(
-        out,
-        exact,
-        Measure::Units,
-        units,
-        rains,
-        losses,
-        excesses,
-        sums,
-    );
+    let next = sheets::write_table(out, exact, Measure::Units, columns);
     let rounded = sheets::write_title(out, next, Measure::Customary, ratio, name);
-    sheets::write_table(
-        out,
-        rounded,
-        Measure::Customary,
-        units,
-        rains,
-        losses,
-        excesses,
-        sums,
-    )
+    sheets::write_table(out, rounded, Measure::Customary, columns)
 }
 
 // The same of the runoff block that the cards hold, with words lent for its columns.
@@ -86,21 +60,14 @@ fn write_columns(
     let letters = name.letters;
     let bytes = name.bytes;
     let units = blocks::values(cards, records::UI);
-    write_tables(
-        out,
-        time.ratio,
-        &bytes[..letters],
+    let columns = Columns {
         units,
         rains,
         losses,
         excesses,
         sums,
-    )
-}
-
-// Words for a column. Their own function: a proof that sees how so many words came to be counts them one by one.
-fn blank_column() -> [u64; ORDINATES] {
-    [0u64; ORDINATES]
+    };
+    write_tables(out, time.ratio, &bytes[..letters], &columns)
 }
 
 // The tables of the runoff block that the cards hold.
@@ -110,10 +77,10 @@ fn write_runoff(out: &mut [u8], time: Time, name: Name, cards: &[u64]) -> usize
     ensures { Written out.old 0 (table_of Units (time_is time) (block_of (name_is name) cards.now) ++ table_of Customary (time_is time) (block_of (name_is name) cards.now)) out.new result }
 {
     let n = time.ordinates;
-    let mut rains = blank_column();
-    let mut losses = blank_column();
-    let mut excesses = blank_column();
-    let mut sums = blank_column();
+    let mut rains = [0u64; ORDINATES];
+    let mut losses = [0u64; ORDINATES];
+    let mut excesses = [0u64; ORDINATES];
+    let mut sums = [0u64; ORDINATES];
     write_columns(
         out,
         time,
@@ -139,16 +106,6 @@ fn write_sheet(out: &mut [u8], time: Time, name: Name, cards: &[u64]) -> usize
     sheets::write_no_sheet(out, 0, kind as u64)
 }
 
-// The number before, or 0.
-fn before(number: usize) -> usize
-    ensures { result ≡ number - 1 }
-{
-    if number == 0 {
-        return 0;
-    }
-    number - 1
-}
-
 // The sheet of the block of that number under the ratio of that number, both from 1; nothing where the block is not found.
 fn sheet_block(deck: &[u8], number: usize, ratio: usize, out: &mut [u8]) -> usize
     requires { sheet_size ≤ length out.old }
@@ -160,7 +117,7 @@ fn sheet_block(deck: &[u8], number: usize, ratio: usize, out: &mut [u8]) -> usiz
     let name = found.name;
     if found.there {
         let ratios = time.ratios;
-        let rate = blocks::ratio_at(ratios, before(ratio));
+        let rate = blocks::ratio_at(ratios, ratio.saturating_sub(1));
         return write_sheet(out, blocks::under(time, rate), name, &cards);
     }
     0
@@ -170,10 +127,7 @@ fn sheet_block(deck: &[u8], number: usize, ratio: usize, out: &mut [u8]) -> usiz
 fn number_of(named: usize, count: usize) -> usize
     ensures { result ≡ number_of named count }
 {
-    if named == 0 {
-        return count;
-    }
-    named
+    if named == 0 { count } else { named }
 }
 
 // The sheet of a deck's block under a ratio, both by their numbers, or the line of its refusal. With 6,000 words, 300 ordinates and the records of 200 blocks

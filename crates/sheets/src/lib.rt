@@ -10,9 +10,19 @@ ghost use Rattle.text.specs.Written.{Written};
 ghost use Rattle.cells.specs.Sizes.{cell_size, most_depth, most_unit};
 ghost use Rattle.cells.specs.Cells.{measure_is, share_by};
 ghost use Rattle.sheets.specs.Sizes.{name_size, title_size, no_sheet_size, row_size, table_size};
-ghost use Rattle.sheets.specs.Tables.{Ruled, ruled, row_at};
+ghost use Rattle.sheets.specs.Tables.{RuledColumns, columns_are, row_at};
 
 use cells::Measure;
+
+// What a table is made from: the unit ordinates, the rain, the loss and the excess of each interval, and the sum of each ordinate's column.
+#[derive(Clone, Copy)]
+pub struct Columns<'a> {
+    pub units: &'a [u64],
+    pub rains: &'a [u64],
+    pub losses: &'a [u64],
+    pub excesses: &'a [u64],
+    pub sums: &'a [u64],
+}
 
 // The most ordinates that a deck has, and the bytes that their table has room in: a head, a row for each and the sums, of four cells and one for each ordinate.
 const ORDINATES: usize = 300;
@@ -59,10 +69,8 @@ fn write_head(out: &mut [u8], start: usize, n: usize) -> usize
     ensures { Written out.old start (head_line n) out.new result }
 {
     let mut at = text::write_text(out, start, b"interval,rain,loss,excess");
-    let mut i = 0;
-    while i < n {
+    for i in 0..n {
         at = cells::write_count(out, at, (i + 1) as u64);
-        i += 1;
     }
     text::write_byte(out, at, b'\n')
 }
@@ -81,76 +89,50 @@ fn write_shares(
     ensures { Written out.old start (cells_from (share_by (measure_is measure) units.now excess k) 0 n) out.new result }
 {
     let mut at = start;
-    let mut i = 0;
-    while i < n {
+    for i in 0..n {
         at = cells::write_share(out, at, measure, units, excess, k, i);
-        i += 1;
     }
     at
 }
 
 // The row of interval `k`.
-fn write_row(
-    out: &mut [u8],
-    at: usize,
-    measure: Measure,
-    units: &[u64],
-    rains: &[u64],
-    losses: &[u64],
-    excesses: &[u64],
-    k: usize,
-) -> usize
-    requires ruled { Ruled units.now rains.now losses.now excesses.now }
-    requires k_in_bounds { (k < length excesses.now) × (at + row_size (length excesses.now) ≤ length out.old) }
-    ensures { Written out.old at (row_line (measure_is measure) (ruled units.now rains.now losses.now excesses.now) k) out.new result }
+fn write_row(out: &mut [u8], at: usize, measure: Measure, columns: &Columns, k: usize) -> usize
+    requires ruled { RuledColumns columns.now }
+    requires k_in_bounds { (k < length columns.now.excesses.now) × (at + row_size (length columns.now.excesses.now) ≤ length out.old) }
+    ensures { Written out.old at (row_line (measure_is measure) (columns_are columns.now) k) out.new result }
 {
     let number = k + 1;
     let depths = text::write_whole(out, at, number as u64);
-    let shares = cells::write_depths(out, depths, measure, rains[k], losses[k], excesses[k]);
-    let end = write_shares(out, shares, measure, units, excesses[k], k, excesses.len());
+    let rain = columns.rains[k];
+    let loss = columns.losses[k];
+    let excess = columns.excesses[k];
+    let n = columns.excesses.len();
+    let shares = cells::write_depths(out, depths, measure, rain, loss, excess);
+    let end = write_shares(out, shares, measure, columns.units, excess, k, n);
     text::write_byte(out, end, b'\n')
 }
 
 // The same if the interval has excess: without it there is no row.
-fn write_interval(
-    out: &mut [u8],
-    at: usize,
-    measure: Measure,
-    units: &[u64],
-    rains: &[u64],
-    losses: &[u64],
-    excesses: &[u64],
-    k: usize,
-) -> usize
-    requires ruled { Ruled units.now rains.now losses.now excesses.now }
-    requires k_in_bounds { (k < length excesses.now) × (at + row_size (length excesses.now) ≤ length out.old) }
-    ensures { Written out.old at (row_at (measure_is measure) (ruled units.now rains.now losses.now excesses.now) k) out.new result }
+fn write_interval(out: &mut [u8], at: usize, measure: Measure, columns: &Columns, k: usize) -> usize
+    requires ruled { RuledColumns columns.now }
+    requires k_in_bounds { (k < length columns.now.excesses.now) × (at + row_size (length columns.now.excesses.now) ≤ length out.old) }
+    ensures { Written out.old at (row_at (measure_is measure) (columns_are columns.now) k) out.new result }
 {
-    if excesses[k] == 0 {
+    if columns.excesses[k] == 0 {
         return at;
     }
-    write_row(out, at, measure, units, rains, losses, excesses, k)
+    write_row(out, at, measure, columns, k)
 }
 
 // The rows of all intervals.
-fn write_rows(
-    out: &mut [u8],
-    start: usize,
-    measure: Measure,
-    units: &[u64],
-    rains: &[u64],
-    losses: &[u64],
-    excesses: &[u64],
-) -> usize
-    requires ruled { Ruled units.now rains.now losses.now excesses.now }
-    requires excesses_in_bounds { start + row_size (length excesses.now) * length excesses.now ≤ length out.old }
-    ensures { Written out.old start (rows_from (measure_is measure) (ruled units.now rains.now losses.now excesses.now) 0 (length excesses.now)) out.new result }
+fn write_rows(out: &mut [u8], start: usize, measure: Measure, columns: &Columns) -> usize
+    requires ruled { RuledColumns columns.now }
+    requires excesses_in_bounds { start + row_size (length columns.now.excesses.now) * length columns.now.excesses.now ≤ length out.old }
+    ensures { Written out.old start (rows_from (measure_is measure) (columns_are columns.now) 0 (length columns.now.excesses.now)) out.new result }
 {
     let mut at = start;
-    let mut k = 0;
-    while k < excesses.len() {
-        at = write_interval(out, at, measure, units, rains, losses, excesses, k);
-        k += 1;
+    for k in 0..columns.excesses.len() {
+        at = write_interval(out, at, measure, columns, k);
     }
     at
 }
@@ -161,30 +143,19 @@ fn write_sums(out: &mut [u8], start: usize, measure: Measure, sums: &[u64]) -> u
     ensures { Written out.old start (sum_line (measure_is measure) sums.now (length sums.now)) out.new result }
 {
     let mut at = text::write_text(out, start, b"sum,,,");
-    let mut column = 0;
-    while column < sums.len() {
-        at = cells::write_flow(out, at, measure, sums[column]);
-        column += 1;
+    for &sum in sums {
+        at = cells::write_flow(out, at, measure, sum);
     }
     text::write_byte(out, at, b'\n')
 }
 
-// The table, behind its title: the unit ordinates, the rain, the loss and the excess of each interval, and the sums by ordinate are given.
-pub fn write_table(
-    out: &mut [u8],
-    at: usize,
-    measure: Measure,
-    units: &[u64],
-    rains: &[u64],
-    losses: &[u64],
-    excesses: &[u64],
-    sums: &[u64],
-) -> usize
-    requires ruled { Ruled units.now rains.now losses.now excesses.now }
-    requires sums_len { (length sums.now ≡ length excesses.now) × (at + table_size (length excesses.now) ≤ length out.old) }
-    ensures { Written out.old at (table_text (measure_is measure) (ruled units.now rains.now losses.now excesses.now) sums.now) out.new result }
+// The table, behind its title: its columns are given.
+pub fn write_table(out: &mut [u8], at: usize, measure: Measure, columns: &Columns) -> usize
+    requires ruled { RuledColumns columns.now }
+    requires sums_len { (length columns.now.sums.now ≡ length columns.now.excesses.now) × (at + table_size (length columns.now.excesses.now) ≤ length out.old) }
+    ensures { Written out.old at (table_text (measure_is measure) (columns_are columns.now) columns.now.sums.now) out.new result }
 {
-    let rows = write_head(out, at, excesses.len());
-    let last = write_rows(out, rows, measure, units, rains, losses, excesses);
-    write_sums(out, last, measure, sums)
+    let rows = write_head(out, at, columns.excesses.len());
+    let last = write_rows(out, rows, measure, columns);
+    write_sums(out, last, measure, columns.sums)
 }

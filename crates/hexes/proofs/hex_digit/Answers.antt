@@ -1,7 +1,6 @@
 -- A digit below ten, or a letter.
 use mathlib.Core.Path.{refl}
 use Rattle.sequences.specs.Choices.{taken, passed}
-use borrow.Author.Rules.{rules}
 use borrow.Author.Tests.{lt-ltb, le-ltb}
 use Rattle.hexes.proofs.hex_digit.Goals as goal
 

@@ -1,7 +1,6 @@
 -- The higher digit, and the lower one behind it.
 use native.Mathlib.Omega.{arith}
 use Rattle.text.specs.Written.{written_more}
-use borrow.Author.Rules.{rules}
 use Rattle.hexes.proofs.write_hex.Goals as goal
 
 pub returns : goal.returns

@@ -1,6 +1,7 @@
 -- Without ratios the lines of the records are all, and with them those under each ratio.
 use Prim.Native.Nat.{◌+◌, ◌*◌}
-use native.Mathlib.Omega.{arith}
+use Rattle.std.proofs.Common.{arith, ◌≡◌, ◌∙◌, sym, eqb-true}
+use Rattle.std.proofs.lemmas.Bool.{eqb-false}
 use lib.ListN.{length}
 use Rattle.meaning.specs.Blocks.{or_whole}
 use Rattle.figures.specs.Line.{line_size}
@@ -16,13 +17,13 @@ write_lines-requires c =
     let some = one_there x.ratios.now in
     (omega (arith, lot_fits x.blocks 0 n some), omega (arith, lots_up (ratio_size + line_size * x.blocks) 0 n some))
 
-pub returns-then-ratios-eq0 : goal.returns-then-ratios-eq0
-returns-then-ratios-eq0 c =
+pub returns-then-is_empty : goal.returns-then-is_empty
+returns-then-is_empty c =
     let x = c.args in
-    let none = c.if-ratios-eq0.true in
-    rw (blocks_alone x.ratios.now x.blocks x.records.now (omega arith)) c.write_lines.ensures
+    rw (blocks_alone x.ratios.now x.blocks x.records.now (eqb-true (length x.ratios.now) 0 (sym c.is_empty.ensures ∙ c.if-is_empty.true))) c.write_lines.ensures
 
 pub returns : goal.returns
 returns c =
     let x = c.args in
-    rw (blocks_under x.ratios.now x.blocks x.records.now c.if-ratios-eq0.false) c.write_ratios.ensures
+    let some : length x.ratios.now ≡ 0 → ⊥ = eqb-false (length x.ratios.now) 0 (sym c.is_empty.ensures ∙ c.if-is_empty.false) in
+    rw (blocks_under x.ratios.now x.blocks x.records.now some) c.write_ratios.ensures

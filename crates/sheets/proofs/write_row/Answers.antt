@@ -5,7 +5,7 @@ use Rattle.text.specs.Written.{written_more}
 use Rattle.cells.specs.Sizes.{cell_size, depths_size}
 use Rattle.cells.specs.Cells.{measure_is}
 use Rattle.cells.specs.Room.{behind_depths}
-use Rattle.sheets.specs.Tables.{ruled}
+use Rattle.sheets.specs.Tables.{columns_are}
 use Rattle.sheets.specs.Lines.{row_here}
 use Rattle.sheets.specs.Room.{behind_shares}
 use Rattle.sheets.proofs.write_row.Goals as goal
@@ -35,22 +35,22 @@ write_byte-requires c =
     let x = c.args in
     let from_number : c.write_whole-depths.result ≤ x.at + 20 = omega (arith, c.write_whole-depths.ensures.place, whole_within (x.k + 1)) in
     let from_depths : c.write_depths-shares.result ≤ x.at + 20 + depths_size = omega (arith, behind_depths (measure_is x.measure) _ _ _ c.write_depths-shares.ensures) in
-    omega (arith, behind_shares (measure_is x.measure) x.units.now _ _ (length x.excesses.now) c.write_shares-end.ensures)
+    omega (arith, behind_shares (measure_is x.measure) x.columns.now.units.now _ _ (length x.columns.now.excesses.now) c.write_shares-end.ensures)
 
 pub returns : goal.returns
 returns c =
     let x = c.args in
     let from_number : c.write_whole-depths.result ≤ x.at + 20 = omega (arith, c.write_whole-depths.ensures.place, whole_within (x.k + 1)) in
     let from_depths : c.write_depths-shares.result ≤ x.at + 20 + depths_size = omega (arith, behind_depths (measure_is x.measure) _ _ _ c.write_depths-shares.ensures) in
-    let from_shares : c.write_shares-end.result ≤ x.at + 20 + depths_size + cell_size * length x.excesses.now =
-    omega (arith, behind_shares (measure_is x.measure) x.units.now _ _ (length x.excesses.now) c.write_shares-end.ensures) in
+    let from_shares : c.write_shares-end.result ≤ x.at + 20 + depths_size + cell_size * length x.columns.now.excesses.now =
+    omega (arith, behind_shares (measure_is x.measure) x.columns.now.units.now _ _ (length x.columns.now.excesses.now) c.write_shares-end.ensures) in
     let text =
     written_more (omega arith)
     (written_more (omega arith)
     (written_more (omega arith) c.write_whole-depths.ensures c.write_depths-shares.ensures)
     c.write_shares-end.ensures)
     c.write_byte.ensures in
-    row_here (measure_is x.measure) (ruled x.units.now x.rains.now x.losses.now x.excesses.now) x.k text
+    row_here (measure_is x.measure) (columns_are x.columns.now) x.k text
     (omega arith)
     (omega arith)
     (omega arith)

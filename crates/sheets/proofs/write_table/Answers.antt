@@ -3,13 +3,13 @@ use Rattle.std.proofs.Common.{◌+◌, ◌*◌, ◌≤◌, length, arith}
 use Rattle.text.specs.Written.{written_more}
 use Rattle.cells.specs.Cells.{measure_is}
 use Rattle.sheets.specs.Sizes.{row_size}
-use Rattle.sheets.specs.Tables.{ruled}
+use Rattle.sheets.specs.Tables.{columns_are}
 use Rattle.sheets.specs.Room.{head_short, all_short, rows_all}
 use Rattle.sheets.proofs.write_table.Goals as goal
 
 pub write_rows-last-requires : goal.write_rows-last-requires
 write_rows-last-requires c =
-    let n = length c.args.excesses.now in
+    let n = length c.args.columns.now.excesses.now in
     record {
       ruled = c.requires.ruled;
       excesses_in_bounds = omega (arith, c.write_head-rows.ensures.place, head_short n, rows_all (row_size n) n, c.requires.sums_len.1);
@@ -18,8 +18,8 @@ write_rows-last-requires c =
 pub write_sums-requires : goal.write_sums-requires
 write_sums-requires c =
     let x = c.args in
-    let n = length x.excesses.now in
-    let sheet = ruled x.units.now x.rains.now x.losses.now x.excesses.now in
+    let n = length x.columns.now.excesses.now in
+    let sheet = columns_are x.columns.now in
     let short = all_short (measure_is x.measure) sheet n in
     let behind_head : c.write_head-rows.result ≤ x.at + row_size n = omega (arith, c.write_head-rows.ensures.place, head_short n) in
     let behind_rows : c.write_rows-last.result ≤ x.at + row_size n + row_size n * n = omega (arith, c.write_rows-last.ensures.place, short) in
@@ -28,8 +28,8 @@ write_sums-requires c =
 pub returns : goal.returns
 returns c =
     let x = c.args in
-    let n = length x.excesses.now in
-    let sheet = ruled x.units.now x.rains.now x.losses.now x.excesses.now in
+    let n = length x.columns.now.excesses.now in
+    let sheet = columns_are x.columns.now in
     let short = all_short (measure_is x.measure) sheet n in
     let behind_head : c.write_head-rows.result ≤ x.at + row_size n = omega (arith, c.write_head-rows.ensures.place, head_short n) in
     let behind_rows : c.write_rows-last.result ≤ x.at + row_size n + row_size n * n = omega (arith, c.write_rows-last.ensures.place, short) in
