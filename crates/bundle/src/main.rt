@@ -4,8 +4,6 @@
 ghost use Rattle.std.specs.Prelude.{◌+◌, ◌≤◌, length};
 ghost use Rattle.listing.specs.Sizes.{listing_size};
 
-use streams::Next;
-
 // A listing and the line behind it.
 const ANSWER: usize = listing::LISTING + 3;
 
@@ -25,22 +23,10 @@ fn print_listing(rt: &HostRuntime, deck: &[u8]) -> bool {
     streams::print(rt, &out[..end])
 }
 
-// The next deck, from the length in front of it. Answers whether there was one and its listing was written.
-fn answer_next(rt: &HostRuntime, deck: &mut [u8]) -> bool {
-    match streams::next_deck(rt, deck) {
-        Next::Number(kept) => print_listing(rt, &deck[..kept]),
-        other => {
-            streams::explain(rt, other);
-            false
-        }
-    }
-}
-
-// A proved loop has to end, and nothing says that the input does: no run uses up the turns.
 fn main(rt: HostRuntime) {
     let mut deck = [0u8; streams::DECK];
-    let mut turns = u64::MAX;
-    while 0 < turns && answer_next(&rt, &mut deck) {
-        turns -= 1;
-    }
+    streams::while_answered(&rt, || {
+        let kept = streams::next_deck(&rt, &mut deck)?;
+        Ok(print_listing(&rt, &deck[..kept]))
+    });
 }

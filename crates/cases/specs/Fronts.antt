@@ -1,9 +1,11 @@
 -- What is printed, or counted, of the first few: what one more adds. And how long a number and an answer are.
 --     numbers_more                one more is printed
+--     left_counts                 how many words are not zero, as a count of those that pass a test
 --     left-zero, left_other       one more is looked at, which is zero or not
 --     number_short, counts_short, refusal_short   a number has at most 20 digits
-use Rattle.std.specs.Prelude.{◌≡◌, List, [], ◌∷◌, ◌++◌, ℕ, zero, suc, ◌+◌, ◌^◌, ◌≤◌, ◌<◌, length, get_or, take}
+use Rattle.std.specs.Prelude.{◌≡◌, List, [], ◌∷◌, ◌++◌, ℕ, zero, suc, ◌+◌, ◌^◌, ◌≤◌, ◌<◌, length, get_or, take, Bool, true, false, not, ◌==◌, cond, count_by, refl}
 use Rattle.std.proofs.Common.{sym, ◌∙◌, append-nil, append_assoc, add-zero, add-one, arith, length-append, eq-eqb, ne_eqb}
+use Rattle.std.proofs.lemmas.List.Recursion.{is_count_by}
 use Rattle.meaning.specs.Words.{◌=?◌, when◌then◌else◌}
 use Rattle.meaning.specs.Run.{Accepted, Refused}
 use Rattle.meaning.specs.Listing.{refused_line}
@@ -39,6 +41,17 @@ left-zero i xs h e = rw (add-one i) (left-next i xs h ∙ rw (eq-eqb (get_or xs 
 pub left_other : (i : ℕ) (xs : List ℕ) → i < length xs → 0 < get_or xs i 0 → left (take (i + 1) xs) ≡ left (take i xs) + 1
 unfolding when◌then◌else◌
 left_other i xs h some = rw (add-one i) (left-next i xs h ∙ rw (ne_eqb (get_or xs i 0) 0 (λ e. absurd (omega arith))))
+
+pub left_counts : (xs : List ℕ) → left xs ≡ count_by (λ x. not (x == 0)) xs
+unfolding when◌then◌else◌
+left_counts xs = is_count_by left (λ x. not (x == 0)) refl more xs
+  where
+    more : (x : ℕ) (xs : List ℕ) → left (x ∷ xs) ≡ cond (not (x == 0)) (1 + left xs) (left xs)
+    more x xs = go (x == 0)
+      where
+        go : (b : Bool) → (when b then 0 else 1) + left xs ≡ cond (not b) (1 + left xs) (left xs)
+        go true = omega arith
+        go false = refl
 
 pub counts_short : (nq blocks ratios : ℕ) → nq < 10 ^ 20 → blocks < 10 ^ 20 → ratios < 10 ^ 20 → length (answer_line (Accepted nq blocks ratios)) ≤ answer_size
 unfolding answer_line

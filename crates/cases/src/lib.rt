@@ -91,10 +91,8 @@ fn write_ordinates(out: &mut [u8], start: usize, ordinates: &[u64]) -> usize
     ensures short { result ≤ start + ordinate_size * length ordinates.now + 1 }
 {
     let mut at = start;
-    let mut i = 0;
-    while i < ordinates.len() {
-        at = write_ordinate(out, at, i, ordinates[i]);
-        i += 1;
+    for (i, x) in ordinates.iter().enumerate() {
+        at = write_ordinate(out, at, i, *x);
     }
     text::write_byte(out, at, b'\n')
 }
@@ -103,15 +101,7 @@ fn write_ordinates(out: &mut [u8], start: usize, ordinates: &[u64]) -> usize
 fn count_left(words: &[u64]) -> u64
     ensures { result ≡ left words.now }
 {
-    let mut n = 0;
-    let mut i = 0;
-    while i < words.len() {
-        if words[i] != 0 {
-            n += 1;
-        }
-        i += 1;
-    }
-    n
+    words.iter().filter(|w| **w != 0).count() as u64
 }
 
 // The line of the count, and the last one.

@@ -5,7 +5,7 @@ ghost use Rattle.std.specs.Prelude.{◌≡◌, ◌++◌, ◌≤◌, length, take
 ghost use Rattle.meaning.specs.Results.{record_size, old_record_size};
 ghost use Rattle.meaning.specs.Moving.{old_padding, new_form, old_form, filled, other_ratio};
 ghost use Rattle.forms.specs.Tests.{tail_padding};
-ghost use Rattle.forms.specs.Fault.{fault_of};
+ghost use Rattle.forms.specs.Fault.{number_of, fault_is, fault_of};
 
 use results::{OLD, RECORD};
 
@@ -15,15 +15,35 @@ const TAIL: usize = 36;
 // Ratio 100 and place 1, in two bytes each and the lowest first, as one number: it is read and written at once.
 const WHOLE: u64 = 65_636;
 
+// What a file or a record is refused for: its length is no whole number of records, padding is not zero, a ratio is not 100 or a place not 1, or there is too little room.
+#[derive(Clone, Copy, PartialEq, Eq)]
+pub enum Fault {
+    Length,
+    Padding,
+    Ratio,
+    Room,
+}
+
+impl Fault {
+    // The number that it is told by.
+    pub fn number(self) -> u64
+        ensures { result ≡ number_of self }
+    {
+        match self {
+            Fault::Length => 1,
+            Fault::Padding => 2,
+            Fault::Ratio => 3,
+            Fault::Room => 4,
+        }
+    }
+}
+
 // Padding that is not zero, among the bytes that both forms have.
 pub fn is_filled(r: &[u8]) -> bool
     requires { old_record_size ≤ length r.now }
     ensures { result ≡ filled old_padding r.now }
 {
-    if r[7] != 0 {
-        return true;
-    }
-    slices::read_le(&r[22..24]) != 0
+    r[7] != 0 || slices::read_le(&r[22..24]) != 0
 }
 
 // Padding that is not zero, behind the place.
@@ -43,20 +63,17 @@ fn is_other(r: &[u8]) -> bool
 }
 
 // What one record of the new form is refused for.
-pub fn fault_of(r: &[u8]) -> u64
+pub fn fault_of(r: &[u8]) -> Option<Fault>
     requires { length r.now ≡ record_size }
-    ensures { result ≡ fault_of r.now }
+    ensures { fault_is result ≡ fault_of r.now }
 {
-    if is_filled(r) {
-        return 2;
-    }
-    if is_tail_filled(r) {
-        return 2;
+    if is_filled(r) || is_tail_filled(r) {
+        return Some(Fault::Padding);
     }
     if is_other(r) {
-        return 3;
+        return Some(Fault::Ratio);
     }
-    0
+    None
 }
 
 // The bytes that both forms have. Their number is a constant, so that they are moved in wide pieces.
@@ -64,11 +81,7 @@ fn copy_old(to: &mut [u8], from: &[u8])
     requires { (old_record_size ≤ length to.old) × (old_record_size ≤ length from.now) }
     ensures { to.new ≡ take old_record_size from.now ++ drop old_record_size to.old }
 {
-    let mut i = 0;
-    while i < OLD {
-        to[i] = from[i];
-        i += 1;
-    }
+    to[..OLD].copy_from_slice(&from[..OLD]);
 }
 
 // An old record in the new form: ratio 100, place 1 and zeros behind it.

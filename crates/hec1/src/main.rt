@@ -1,13 +1,13 @@
 // A deck from standard input, its listing to standard output.
 #![tactic(auto)]
 
-use streams::Next;
+use streams::Stop;
 
 fn main(rt: HostRuntime) {
     let mut deck = [0u8; streams::DECK];
     let got = streams::read_all(&rt, &mut deck);
     if got.failed {
-        streams::explain(&rt, Next::Failed);
+        streams::explain(&rt, Stop::Failed);
         return;
     }
     let mut out = [0u8; listing::LISTING];

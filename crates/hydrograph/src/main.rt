@@ -5,8 +5,6 @@
 ghost use Rattle.std.specs.Prelude.{◌≤◌, length};
 ghost use Rattle.graphing.specs.Sizes.{hydrograph_size};
 
-use streams::{Asked, Next};
-
 // Answers whether the hydrograph and the line behind it were written.
 fn print_hydrograph(
     rt: &HostRuntime,
@@ -18,26 +16,7 @@ fn print_hydrograph(
     requires { hydrograph_size ≤ length out.old }
 {
     let end = graphing::hydrograph_deck(deck, named, ratio, out);
-    if streams::print(rt, &out[..end]) {
-        return streams::print(rt, b"--\n");
-    }
-    false
-}
-
-// Answers whether there was a whole case and its hydrograph was written.
-fn answer_next(rt: &HostRuntime, deck: &mut [u8], out: &mut [u8]) -> bool
-    requires { hydrograph_size ≤ length out.old }
-{
-    let Asked::Block(case) = streams::next_case(rt) else {
-        return false;
-    };
-    match streams::read_deck(rt, deck, case.size) {
-        Next::Number(kept) => print_hydrograph(rt, &deck[..kept], case.named, case.ratio, out),
-        none => {
-            streams::explain(rt, none);
-            false
-        }
-    }
+    streams::print(rt, &out[..end]) && streams::print(rt, b"--\n")
 }
 
 // Their own function: a proof that sees how so many bytes came to be counts them one by one.
@@ -45,12 +24,9 @@ fn blank_text() -> [u8; graphing::HYDROGRAPH] {
     [0u8; graphing::HYDROGRAPH]
 }
 
-// A proved loop has to end, and nothing says that the input does: no run uses up the turns.
 fn main(rt: HostRuntime) {
-    let mut deck = [0u8; streams::DECK];
     let mut out = blank_text();
-    let mut turns = u64::MAX;
-    while 0 < turns && answer_next(&rt, &mut deck, &mut out) {
-        turns -= 1;
-    }
+    streams::answer_cases(&rt, |case, deck| {
+        print_hydrograph(&rt, deck, case.named, case.ratio, &mut out)
+    });
 }

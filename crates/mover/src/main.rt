@@ -5,10 +5,10 @@
 ghost use Rattle.std.specs.Prelude.{◌≤◌, length};
 
 use moves::Case;
-use moving::Move;
-use streams::Next;
+use forms::Fault;
+use streams::Stop;
 
-fn move_file(file: &[u8], direction: usize, room: &mut [u8]) -> Move {
+fn move_file(file: &[u8], direction: usize, room: &mut [u8]) -> Result<usize, Fault> {
     if direction == 0 {
         return moving::to_new(file, room);
     }
@@ -32,54 +32,19 @@ fn lend(rt: &HostRuntime, file: &[u8], case: Case)
     run_case(rt, file, case.direction, &mut room[..n]);
 }
 
-#[derive(Clone, Copy)]
-enum Asked {
-    Run(Case),
-    Nothing,
+// Answers whether the case has a known direction, asks no more than can be lent and has a file that can be held.
+fn answer_next(rt: &HostRuntime, file: &mut [u8]) -> Result<bool, Stop> {
+    let head = streams::read_head::<12>(rt)?;
+    let case = moves::read_move(&head);
+    if 1 < case.direction || moves::ROOM < case.room || moves::FILE < case.size {
+        return Ok(false);
+    }
+    let kept = streams::read_deck(rt, file, case.size)?;
+    lend(rt, &file[..kept], case);
+    Ok(true)
 }
 
-fn next_case(rt: &HostRuntime) -> Asked {
-    let mut b = [0u8; 12];
-    match streams::fill(rt, &mut b) {
-        Next::Number(_) => Asked::Run(moves::read_move(&b)),
-        none => {
-            streams::explain(rt, none);
-            Asked::Nothing
-        }
-    }
-}
-
-// Answers whether there was a whole case with a known direction, that asks no more than can be lent and whose file can be held.
-fn answer_next(rt: &HostRuntime, file: &mut [u8]) -> bool {
-    let Asked::Run(case) = next_case(rt) else {
-        return false;
-    };
-    if 1 < case.direction {
-        return false;
-    }
-    if moves::ROOM < case.room {
-        return false;
-    }
-    if moves::FILE < case.size {
-        return false;
-    }
-    match streams::read_deck(rt, file, case.size) {
-        Next::Number(kept) => {
-            lend(rt, &file[..kept], case);
-            true
-        }
-        none => {
-            streams::explain(rt, none);
-            false
-        }
-    }
-}
-
-// A proved loop has to end, and nothing says that the input does: no run uses up the turns.
 fn main(rt: HostRuntime) {
     let mut file = [0u8; moves::FILE];
-    let mut turns = u64::MAX;
-    while 0 < turns && answer_next(&rt, &mut file) {
-        turns -= 1;
-    }
+    streams::while_answered(&rt, || answer_next(&rt, &mut file));
 }

@@ -9,7 +9,7 @@ ghost use Rattle.moves.specs.Case.{move_case_of};
 ghost use Rattle.moves.specs.Sizes.{answer_size, move_size};
 ghost use Rattle.moves.specs.Text.{move_line, move_text};
 
-use moving::Move;
+use forms::Fault;
 
 // The most that a case may ask for, and the bytes that its text has room in: the answer, 2 for a byte of the room and the end of their line, the last line.
 pub const ROOM: usize = 80_000;
@@ -39,19 +39,19 @@ pub fn read_move(b: &[u8]) -> Case
 }
 
 // The line of the answer.
-fn write_answer(out: &mut [u8], answer: Move) -> usize
+fn write_answer(out: &mut [u8], answer: Result<usize, Fault>) -> usize
     requires { answer_size ≤ length out.old }
     ensures text { Written out.old 0 (move_line (move_is answer)) out.new result }
     ensures short { result ≤ answer_size }
 {
     match answer {
-        Move::Moved(count) => text::write_told(out, 0, b"MOVED ", count as u64),
-        Move::Refused(number) => text::write_told(out, 0, b"REFUSED ", number),
+        Ok(count) => text::write_told(out, 0, b"MOVED ", count as u64),
+        Err(fault) => text::write_told(out, 0, b"REFUSED ", fault.number()),
     }
 }
 
 // What is printed of a case.
-pub fn write_move(out: &mut [u8], answer: Move, room: &[u8]) -> usize
+pub fn write_move(out: &mut [u8], answer: Result<usize, Fault>, room: &[u8]) -> usize
     requires { move_size (length room.now) ≤ length out.old }
     ensures text { Written out.old 0 (move_text (outcome_is answer room.now)) out.new result }
     ensures counted { Counted result out.new }

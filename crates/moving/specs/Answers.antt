@@ -3,23 +3,24 @@
 --     move-told                        an answer is told by what it means
 --     refused_in, moved_in               what comes back of a refusal, and of bytes that were moved, in a room of so many bytes
 --     unless-refused, unless_moved     a move that is refused, and one that is not
-use Rattle.std.specs.Prelude.{ℕ, zero, suc, ◌-◌, ◌≡◌, refl, List, ◌++◌, length, replicate}
+use Rattle.std.specs.Prelude.{ℕ, zero, suc, ◌-◌, ◌≡◌, refl, List, ◌++◌, length, replicate, Result, Ok, Err}
+use Rattle.std.proofs.Common.{ap}
 use Rattle.meaning.specs.Moving as meaning
 use Rattle.meaning.specs.Moving.{Outcome, moved_unless}
-use Rattle.moving.specs.declared.Move.{Move}
-use Rattle.moving.specs.declared.Move.TheVariants as move
+use Rattle.forms.specs.declared.Fault.{Fault}
+use Rattle.forms.specs.Fault.{number_of, number-told}
 
-abbrev pub move_is : Move → meaning.Move
-move_is (move.Moved count) = meaning.Moved count
-move_is (move.Refused number) = meaning.Unmoved number
+abbrev pub move_is : Result ℕ Fault → meaning.Move
+move_is (Ok count) = meaning.Moved count
+move_is (Err fault) = meaning.Unmoved (number_of fault)
 
-pub move-told : (x y : Move) → move_is x ≡ move_is y → x ≡ y
-move-told (move.Moved n) (move.Moved m) h = cc
-move-told (move.Moved n) (move.Refused m) h = cc
-move-told (move.Refused n) (move.Moved m) h = cc
-move-told (move.Refused n) (move.Refused m) h = cc
+pub move-told : (x y : Result ℕ Fault) → move_is x ≡ move_is y → x ≡ y
+move-told (Ok n) (Ok m) h = cc
+move-told (Ok n) (Err m) h = cc
+move-told (Err n) (Ok m) h = cc
+move-told (Err n) (Err m) h = ap Err (number-told n m (cc h))
 
-abbrev pub outcome_is : Move → (room : List ℕ) → Outcome
+abbrev pub outcome_is : Result ℕ Fault → (room : List ℕ) → Outcome
 outcome_is m room = record { answer = move_is m; room = room }
 
 abbrev pub refused_in : (number : ℕ) → (room : ℕ) → Outcome

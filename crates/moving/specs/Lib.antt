@@ -4,4 +4,5 @@ pub mod Records
 pub mod Loops
 pub mod Faults
 pub mod Ways
+pub mod Directions
 pub mod Outcomes

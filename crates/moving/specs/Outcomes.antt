@@ -3,23 +3,24 @@
 --     way_judged                  the refusals in their order, with the room for as many bytes as are moved
 --     way_refused, way_moved      what comes of a file by its refusal, either way
 --     way_room                    a file that is not refused has its room
-use Rattle.std.specs.Prelude.{ℕ, ◌-◌, ◌*◌, ◌/◌, ◌%◌, ◌≤◌, ◌≡◌, List, length, take, drop, replicate}
+use Rattle.std.specs.Prelude.{ℕ, ◌-◌, ◌*◌, ◌/◌, ◌%◌, ◌≤◌, ◌≡◌, List, length, take, drop, replicate, Ok, Err}
 use Rattle.std.proofs.Common.{sym, ap, ◌∙◌, length-drop, length-take-le, take_at, eq-eqb, ltb-false}
 use Rattle.meaning.specs.Words.{◌<?◌, met, first}
 use Rattle.meaning.specs.Moving.{records_in, length_refusal, Outcome, moved_unless}
 use Rattle.sequences.specs.Parts.{part, put, put_tail, part_to_end}
-use Rattle.moving.specs.declared.Move.TheVariants as move
+use Rattle.forms.specs.declared.Fault.{Fault}
+use Rattle.forms.specs.Fault.{number_of}
 use Rattle.sequences.specs.Refusals.{neither_met, not_met}
 use Rattle.moving.specs.Answers.{outcome_is, refused_in, moved_in, unless-refused, unless_moved}
 use Rattle.moving.specs.Records.{moved_by, length_moved}
 use Rattle.moving.specs.Loops.{MovedTo}
 use Rattle.moving.specs.Ways.{refusal_of, Way}
 
-pub zeros_all : (number : ℕ) (room : List ℕ) {zeros : List ℕ} → zeros ≡ replicate (length room) 0 → outcome_is (move.Refused number) zeros ≡ refused_in number (length room)
-zeros_all number room e = rw e
+pub zeros_all : (fault : Fault) (room : List ℕ) {zeros : List ℕ} → zeros ≡ replicate (length room) 0 → outcome_is (Err fault) zeros ≡ refused_in (number_of fault) (length room)
+zeros_all fault room e = rw e
 
 pub zeros-behind : (n : ℕ) (room : List ℕ) {zeros : List ℕ} → n ≤ length room → zeros ≡ replicate (length (part n (length room - n) room)) 0
-    → outcome_is (move.Moved n) (put n (length room - n) room zeros) ≡ moved_in (take n room) (length room)
+    → outcome_is (Ok n) (put n (length room - n) room zeros) ≡ moved_in (take n room) (length room)
 zeros-behind n room h e =
     let count : length (take n room) ≡ n = length-take-le n room h in
     let behind : length (part n (length room - n) room) ≡ length room - n = ap length (part_to_end n room) ∙ length-drop n room in

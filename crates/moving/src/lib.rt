@@ -1,163 +1,219 @@
 // The mover: a result file from the old form to the new, and back, between lent bytes.
 #![tactic(auto)]
 
-ghost use Rattle.std.specs.Prelude.{◌≡◌, ◌≤◌, length, take};
-ghost use Rattle.meaning.specs.Words.{◌<?◌, met, first};
+ghost use Rattle.std.specs.Prelude.{ℕ, List, ◌≡◌, ◌≤◌, ◌<◌, ◌*◌, ◌/◌, ◌^◌, length, take};
+ghost use Rattle.meaning.specs.Words.{◌<?◌, met};
 ghost use Rattle.meaning.specs.Results.{record_size, old_record_size};
-ghost use Rattle.meaning.specs.Moving.{new_form, old_form, records_in, to_new, to_old};
+ghost use Rattle.meaning.specs.Moving.{Outcome, old_padding, new_form, old_form, records_in, filled, to_new, to_old};
+ghost use Rattle.forms.specs.Fault.{fault_is, number_of, fault_of};
 ghost use Rattle.moving.specs.Answers.{outcome_is, refused_in, moved_in};
 ghost use Rattle.moving.specs.Records.{moved_by};
 ghost use Rattle.moving.specs.Loops.{MovedTo};
 ghost use Rattle.moving.specs.Faults.{new_faults, old_faults};
-ghost use Rattle.moving.specs.Ways.{refusal_of};
+ghost use Rattle.moving.specs.Ways.{refusal_of, Way, new_way, old_way};
+ghost use Rattle.moving.specs.Directions.{Judges, Counts, new_fault, new_judges, old_judges, new_counts, old_counts};
 
+use forms::Fault;
 use results::{OLD, RECORD};
 
-// What became of a file: how many bytes were moved, or the number of the refusal.
-#[derive(Clone, Copy)]
-pub enum Move {
-    Moved(usize),
-    Refused(u64),
+// A direction: the bytes of a record here and there, what a record is refused for, and how it is put there.
+trait Direction {
+    ghost SIZE: { ℕ };
+
+    const SIZE: usize;
+
+    ghost TO: { ℕ };
+
+    const TO: usize;
+
+    ghost form: { List ℕ → List ℕ };
+
+    ghost fault: { List ℕ → ℕ };
+
+    ghost faults: { List (List ℕ) → ℕ };
+
+    ghost way: { List ℕ → ℕ → Outcome };
+
+    fn find_fault(from: &[u8]) -> Option<Fault>
+        requires { length from.now ≡ SIZE }
+        ensures { fault_is result ≡ fault from.now };
+
+    fn put(to: &mut [u8], from: &[u8])
+        requires { (length to.old ≡ TO) × (length from.now ≡ SIZE) }
+        ensures { to.new ≡ form from.now };
+
+    ghost is_way: { Way SIZE TO form faults way };
+
+    ghost judges: { Judges fault faults };
+
+    ghost counts: { Counts SIZE TO };
 }
 
-// Of two refusals the first; 0 is none.
-fn keep_first(found: u64, next: u64) -> u64
-    ensures { result ≡ first found next }
-{
-    if found == 0 { next } else { found }
-}
+struct ToNew;
 
-// What an old file is refused for by its records.
-fn find_filled(file: &[u8]) -> u64
-    ensures { result ≡ new_faults (records_in old_record_size file.now) }
-{
-    let mut at = 0;
-    while at + OLD <= file.len() {
-        if forms::is_filled(&file[at..at + OLD]) {
-            return 2;
+struct ToOld;
+
+impl Direction for ToNew {
+    ghost SIZE = { old_record_size };
+
+    const SIZE: usize = OLD;
+
+    ghost TO = { record_size };
+
+    const TO: usize = RECORD;
+
+    ghost form = { new_form };
+
+    ghost fault = { new_fault };
+
+    ghost faults = { new_faults };
+
+    ghost way = { to_new };
+
+    fn find_fault(from: &[u8]) -> Option<Fault> {
+        if forms::is_filled(from) {
+            return Some(Fault::Padding);
         }
-        at += OLD;
+        None
     }
-    0
+
+    fn put(to: &mut [u8], from: &[u8]) {
+        forms::put_new(to, from);
+    }
+
+    ghost is_way = { new_way };
+
+    ghost judges = { new_judges };
+
+    ghost counts = { new_counts };
 }
 
-// What a new file is refused for by its records. 2 in a later record comes before 3 in an earlier one, so a 3 is noted and the loop goes on.
-fn find_fault(file: &[u8]) -> u64
-    ensures { result ≡ old_faults (records_in record_size file.now) }
+impl Direction for ToOld {
+    ghost SIZE = { record_size };
+
+    const SIZE: usize = RECORD;
+
+    ghost TO = { old_record_size };
+
+    const TO: usize = OLD;
+
+    ghost form = { old_form };
+
+    ghost fault = { fault_of };
+
+    ghost faults = { old_faults };
+
+    ghost way = { to_old };
+
+    fn find_fault(from: &[u8]) -> Option<Fault> {
+        forms::fault_of(from)
+    }
+
+    fn put(to: &mut [u8], from: &[u8]) {
+        forms::put_old(to, from);
+    }
+
+    ghost is_way = { old_way };
+
+    ghost judges = { old_judges };
+
+    ghost counts = { old_counts };
+}
+
+// What a file is refused for by its records. Padding in a later record comes before another ratio in an earlier one, so that is noted and the loop goes on.
+fn find_fault<D: Direction>(file: &[u8]) -> Option<Fault>
+    ensures { fault_is result ≡ D.faults (records_in D.SIZE file.now) }
 {
-    let mut found = 0;
-    let mut at = 0;
-    while at + RECORD <= file.len() {
-        let fault = forms::fault_of(&file[at..at + RECORD]);
-        if fault == 2 {
+    let mut found = None;
+    let mut rest = file;
+    while let Some((record, behind)) = rest.split_at_checked(D::SIZE) {
+        let fault = D::find_fault(record);
+        if fault == Some(Fault::Padding) {
             return fault;
         }
-        found = keep_first(fault, found);
-        at += RECORD;
+        found = fault.or(found);
+        rest = behind;
     }
     found
 }
 
 // What is refused for the room, where so many bytes are to be moved.
-fn check_room(moved: usize, room: usize) -> u64
-    ensures { result ≡ met (room <? moved) 4 }
+fn check_room(moved: usize, room: usize) -> Option<Fault>
+    ensures { fault_is result ≡ met (room <? moved) 4 }
 {
-    if room < moved { 4 } else { 0 }
+    if room < moved {
+        Some(Fault::Room)
+    } else {
+        None
+    }
 }
 
-// What an old file is refused for, with so much room; 0 for nothing.
-fn judge_old_file(file: &[u8], room: usize) -> u64
-    ensures { result ≡ refusal_of old_record_size new_form new_faults file.now room }
+// What a file is refused for, with so much room.
+fn judge<D: Direction>(file: &[u8], room: usize) -> Option<Fault>
+    ensures { fault_is result ≡ refusal_of D.SIZE D.form D.faults file.now room }
 {
     let size = file.len();
-    if size % OLD != 0 {
-        return 1;
+    if size % D::SIZE != 0 {
+        return Some(Fault::Length);
     }
-    let filled = find_filled(file);
-    let short = check_room(size / OLD * RECORD, room);
-    keep_first(filled, short)
+    let fault = find_fault::<D>(file);
+    let short = check_room(size / D::SIZE * D::TO, room);
+    fault.or(short)
 }
 
-// What a new file is refused for, with so much room; 0 for nothing.
-fn judge_new_file(file: &[u8], room: usize) -> u64
-    ensures { result ≡ refusal_of record_size old_form old_faults file.now room }
+// Every record of a file in the other form, from the front of the room on; how many bytes they are.
+fn move_records<D: Direction>(file: &[u8], room: &mut [u8]) -> usize
+    requires { length (moved_by D.form D.SIZE file.now) ≤ length room.old }
+    ensures { MovedTo (moved_by D.form D.SIZE file.now) room.old room.new result }
 {
-    let size = file.len();
-    if size % RECORD != 0 {
-        return 1;
+    let mut n = 0;
+    let mut left = file;
+    while let Some((record, others)) = left.split_at_checked(D::SIZE) {
+        D::put(&mut room[n..n + D::TO], record);
+        n += D::TO;
+        left = others;
     }
-    let fault = find_fault(file);
-    let short = check_room(size / RECORD * OLD, room);
-    keep_first(fault, short)
-}
-
-// Every record of an old file in the new form, from the front of the room on; how many bytes they are.
-fn move_old_file(file: &[u8], room: &mut [u8]) -> usize
-    requires { length (moved_by new_form old_record_size file.now) ≤ length room.old }
-    ensures { MovedTo (moved_by new_form old_record_size file.now) room.old room.new result }
-{
-    let mut q = 0;
-    let mut p = 0;
-    while p + OLD <= file.len() {
-        forms::put_new(&mut room[q..q + RECORD], &file[p..p + OLD]);
-        q += RECORD;
-        p += OLD;
-    }
-    q
-}
-
-// Every record of a new file in the old form, from the front of the room on; how many bytes they are.
-fn move_new_file(file: &[u8], room: &mut [u8]) -> usize
-    requires { length (moved_by old_form record_size file.now) ≤ length room.old }
-    ensures { MovedTo (moved_by old_form record_size file.now) room.old room.new result }
-{
-    let mut q = 0;
-    let mut p = 0;
-    while p + RECORD <= file.len() {
-        forms::put_old(&mut room[q..q + OLD], &file[p..p + RECORD]);
-        q += OLD;
-        p += RECORD;
-    }
-    q
+    n
 }
 
 // Nothing is left in the room.
-fn refuse(number: u64, room: &mut [u8]) -> Move
-    ensures { outcome_is result room.new ≡ refused_in number (length room.old) }
+fn refuse(fault: Fault, room: &mut [u8]) -> Result<usize, Fault>
+    ensures { outcome_is result room.new ≡ refused_in (number_of fault) (length room.old) }
 {
-    slices::fill_bytes(room, 0);
-    Move::Refused(number)
+    room.fill(0);
+    Err(fault)
 }
 
 // The first `n` bytes of the room were moved; nothing is left behind them.
-fn settle(n: usize, room: &mut [u8]) -> Move
+fn settle(n: usize, room: &mut [u8]) -> Result<usize, Fault>
     requires { n ≤ length room.old }
     ensures { outcome_is result room.new ≡ moved_in (take n room.old) (length room.old) }
 {
-    slices::fill_bytes(&mut room[n..], 0);
-    Move::Moved(n)
+    room[n..].fill(0);
+    Ok(n)
 }
 
-// A result file from the old form to the new. Nothing is moved before the whole file and the room are found good.
-pub fn to_new(file: &[u8], room: &mut [u8]) -> Move
+// Nothing is moved before the whole file and the room are found good.
+fn move_file<D: Direction>(file: &[u8], room: &mut [u8]) -> Result<usize, Fault>
+    ensures { outcome_is result room.new ≡ D.way file.now (length room.old) }
+{
+    if let Some(fault) = judge::<D>(file, room.len()) {
+        return refuse(fault, room);
+    }
+    let n = move_records::<D>(file, room);
+    settle(n, room)
+}
+
+// A result file from the old form to the new: how many bytes were moved, or what the file is refused for.
+pub fn to_new(file: &[u8], room: &mut [u8]) -> Result<usize, Fault>
     ensures { outcome_is result room.new ≡ to_new file.now (length room.old) }
 {
-    let number = judge_old_file(file, room.len());
-    if number != 0 {
-        return refuse(number, room);
-    }
-    let n = move_old_file(file, room);
-    settle(n, room)
+    move_file::<ToNew>(file, room)
 }
 
-// A result file from the new form to the old. Nothing is moved before the whole file and the room are found good.
-pub fn to_old(file: &[u8], room: &mut [u8]) -> Move
+// A result file from the new form to the old, and the same.
+pub fn to_old(file: &[u8], room: &mut [u8]) -> Result<usize, Fault>
     ensures { outcome_is result room.new ≡ to_old file.now (length room.old) }
 {
-    let number = judge_new_file(file, room.len());
-    if number != 0 {
-        return refuse(number, room);
-    }
-    let n = move_new_file(file, room);
-    settle(n, room)
+    move_file::<ToOld>(file, room)
 }

@@ -5,7 +5,7 @@
 ghost use Rattle.std.specs.Prelude.{◌≤◌, length};
 
 use cases::Case;
-use streams::Next;
+use streams::Stop;
 
 fn run_case(
     rt: &HostRuntime,
@@ -44,54 +44,19 @@ fn lend(rt: &HostRuntime, deck: &[u8], case: Case)
     );
 }
 
-#[derive(Clone, Copy)]
-enum Asked {
-    Run(Case),
-    Nothing,
+// Answers whether the case asks no more than can be lent.
+fn answer_next(rt: &HostRuntime, deck: &mut [u8]) -> Result<bool, Stop> {
+    let head = streams::read_head::<24>(rt)?;
+    let case = cases::read_case(&head);
+    if cases::WORK < case.work || cases::ORDINATES < case.ordinates || cases::RECORDS < case.records {
+        return Ok(false);
+    }
+    let kept = streams::read_deck(rt, deck, case.size)?;
+    lend(rt, &deck[..kept], case);
+    Ok(true)
 }
 
-fn next_case(rt: &HostRuntime) -> Asked {
-    let mut b = [0u8; 24];
-    match streams::fill(rt, &mut b) {
-        Next::Number(_) => Asked::Run(cases::read_case(&b)),
-        none => {
-            streams::explain(rt, none);
-            Asked::Nothing
-        }
-    }
-}
-
-// Answers whether there was a whole case that asks no more than can be lent.
-fn answer_next(rt: &HostRuntime, deck: &mut [u8]) -> bool {
-    let Asked::Run(case) = next_case(rt) else {
-        return false;
-    };
-    if cases::WORK < case.work {
-        return false;
-    }
-    if cases::ORDINATES < case.ordinates {
-        return false;
-    }
-    if cases::RECORDS < case.records {
-        return false;
-    }
-    match streams::read_deck(rt, deck, case.size) {
-        Next::Number(kept) => {
-            lend(rt, &deck[..kept], case);
-            true
-        }
-        none => {
-            streams::explain(rt, none);
-            false
-        }
-    }
-}
-
-// A proved loop has to end, and nothing says that the input does: no run uses up the turns.
 fn main(rt: HostRuntime) {
     let mut deck = [0u8; streams::DECK];
-    let mut turns = u64::MAX;
-    while 0 < turns && answer_next(&rt, &mut deck) {
-        turns -= 1;
-    }
+    streams::while_answered(&rt, || answer_next(&rt, &mut deck));
 }

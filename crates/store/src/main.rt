@@ -9,9 +9,9 @@ ghost use Rattle.store.specs.Kept.{moved_as};
 
 use answers::Answer;
 use listing::{ORDINATES, RECORDS};
-use moving::Move;
+use forms::Fault;
 use results::RECORD;
-use streams::Next;
+use streams::Stop;
 
 // The most bytes that a result file may have, and those that it may take in the other form.
 const FILE: usize = 1_600_000;
@@ -54,7 +54,7 @@ fn keep_records(rt: &HostRuntime, deck: &[u8]) {
 }
 
 // 1 asks for the new form, 2 for the old.
-fn move_file(asked: usize, file: &[u8], room: &mut [u8]) -> Move
+fn move_file(asked: usize, file: &[u8], room: &mut [u8]) -> Result<usize, Fault>
     ensures { outcome_is result room.new ≡ moved_as asked file.now (length room.old) }
 {
     if asked == 1 {
@@ -65,10 +65,10 @@ fn move_file(asked: usize, file: &[u8], room: &mut [u8]) -> Move
 
 fn put_moved(rt: &HostRuntime, asked: usize, file: &[u8], room: &mut [u8]) {
     match move_file(asked, file, room) {
-        Move::Moved(n) => {
+        Ok(n) => {
             streams::print(rt, &room[..n]);
         }
-        Move::Refused(number) => tell_number(rt, number),
+        Err(fault) => tell_number(rt, fault.number()),
     }
 }
 
@@ -85,7 +85,7 @@ fn keep(rt: &HostRuntime, asked: usize) {
     let mut file = zeros();
     let got = streams::read_all(rt, &mut file);
     if got.failed {
-        streams::explain(rt, Next::Failed);
+        streams::explain(rt, Stop::Failed);
         return;
     }
     let n = got.count;
@@ -99,7 +99,7 @@ fn keep(rt: &HostRuntime, asked: usize) {
 // A number that asks for nothing is an input cut short.
 fn answer(rt: &HostRuntime, asked: usize) {
     if 2 < asked {
-        streams::explain(rt, Next::Cut);
+        streams::explain(rt, Stop::Cut);
     } else {
         keep(rt, asked);
     }
@@ -108,8 +108,8 @@ fn answer(rt: &HostRuntime, asked: usize) {
 // And so is no number.
 fn main(rt: HostRuntime) {
     match streams::read_number(&rt) {
-        Next::Number(asked) => answer(&rt, asked),
-        Next::Failed => streams::explain(&rt, Next::Failed),
-        _ => streams::explain(&rt, Next::Cut),
+        Ok(asked) => answer(&rt, asked),
+        Err(Stop::Failed) => streams::explain(&rt, Stop::Failed),
+        Err(_) => streams::explain(&rt, Stop::Cut),
     }
 }

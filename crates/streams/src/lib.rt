@@ -2,7 +2,7 @@
 // to the output. Where either fails, or the input ends too early, a line on standard error says so: a program's exit status is always 0.
 #![tactic(auto)]
 
-ghost use Rattle.std.specs.Prelude.{◌≡◌, ◌≤◌, length};
+ghost use Rattle.std.specs.Prelude.{◌≡◌, ◌≤◌, length, IfOk};
 ghost use Rattle.streams.specs.Numbers.{IsPrefixLen, Filled, InFour, InFourEach, CaseInFour, Kept, Fits};
 
 use std::io::Read;
@@ -10,17 +10,16 @@ use std::io::Read;
 // One byte more than a deck may have: with it a deck is too long, whatever follows.
 pub const DECK: usize = 60_001;
 
-// What a read brought: so many bytes, and whether it failed before it had all.
+// What a read brought: so many bytes, and whether it failed before it had all. It is no Result, as the bytes before a failure count too: `pass` goes on behind them.
 #[derive(Clone, Copy)]
 pub struct Got {
     pub count: usize,
     pub failed: bool,
 }
 
-// What comes next: a number, or why there is none. The input ends here, or it ends inside of what was begun, or a read fails.
-#[derive(Clone, Copy)]
-pub enum Next {
-    Number(usize),
+// Why there is no number: the input ends here, or it ends inside of what was begun, or a read fails.
+#[derive(Clone, Copy, PartialEq, Eq)]
+pub enum Stop {
     End,
     Cut,
     Failed,
@@ -64,33 +63,35 @@ pub fn read_all(rt: &HostRuntime, s: &mut [u8]) -> Got
 }
 
 // Fills a slice, and tells how many bytes it has.
-pub fn fill(rt: &HostRuntime, s: &mut [u8]) -> Next
+pub fn fill(rt: &HostRuntime, s: &mut [u8]) -> Result<usize, Stop>
     ensures { Filled s.new result }
 {
     let got = read_all(rt, s);
     if got.failed {
-        return Next::Failed;
+        return Err(Stop::Failed);
     }
     if got.count == s.len() {
-        return Next::Number(got.count);
+        return Ok(got.count);
     }
     if got.count == 0 {
-        return Next::End;
+        return Err(Stop::End);
     }
-    Next::Cut
+    Err(Stop::Cut)
+}
+
+// So many bytes.
+pub fn read_head<const N: usize>(rt: &HostRuntime) -> Result<[u8; N], Stop> {
+    let mut head = [0u8; N];
+    let _ = fill(rt, &mut head)?;
+    Ok(head)
 }
 
 // A number in 4 bytes, the lowest first.
-pub fn read_number(rt: &HostRuntime) -> Next
+pub fn read_number(rt: &HostRuntime) -> Result<usize, Stop>
     ensures { InFour result }
 {
-    let mut b = [0u8; 4];
-    match fill(rt, &mut b) {
-        Next::Number(_) => Next::Number(slices::read_le(&b) as usize),
-        Next::End => Next::End,
-        Next::Cut => Next::Cut,
-        Next::Failed => Next::Failed,
-    }
+    let head = read_head::<4>(rt)?;
+    Ok(slices::read_le(&head) as usize)
 }
 
 // Reads past some of the next bytes, `most` at most: 0 only where the input ends or a read fails.
@@ -98,7 +99,7 @@ fn pass_some(rt: &HostRuntime, most: usize) -> Got
     ensures { result.count ≤ most }
 {
     let mut past = [0u8; 65_536];
-    let n = slices::smaller(most, 65_536);
+    let n = most.min(65_536);
     read_all(rt, &mut past[..n])
 }
 
@@ -122,31 +123,27 @@ fn pass(rt: &HostRuntime, size: usize) -> Got {
 }
 
 // The front of a deck of that size, as much as the slice holds; what stands behind it is read past.
-pub fn read_deck(rt: &HostRuntime, deck: &mut [u8], size: usize) -> Next
+pub fn read_deck(rt: &HostRuntime, deck: &mut [u8], size: usize) -> Result<usize, Stop>
     ensures { Kept size deck.new result }
 {
-    let kept = slices::smaller(size, deck.len());
+    let kept = size.min(deck.len());
     let front = read_all(rt, &mut deck[..kept]);
     let rest = pass(rt, size - kept);
     if front.failed || rest.failed {
-        return Next::Failed;
+        return Err(Stop::Failed);
     }
     if front.count < kept || rest.count < size - kept {
-        return Next::Cut;
+        return Err(Stop::Cut);
     }
-    Next::Number(kept)
+    Ok(kept)
 }
 
 // A deck behind its length, as `read_deck` has it.
-pub fn next_deck(rt: &HostRuntime, deck: &mut [u8]) -> Next
+pub fn next_deck(rt: &HostRuntime, deck: &mut [u8]) -> Result<usize, Stop>
     ensures { Fits deck.new result }
 {
-    match read_number(rt) {
-        Next::Number(size) => read_deck(rt, deck, size),
-        Next::End => Next::End,
-        Next::Cut => Next::Cut,
-        Next::Failed => Next::Failed,
-    }
+    let size = read_number(rt)?;
+    read_deck(rt, deck, size)
 }
 
 // What a case says before its deck: the block and the ratio that are named, and the deck's length.
@@ -155,13 +152,6 @@ pub struct Case {
     pub named: usize,
     pub ratio: usize,
     pub size: usize,
-}
-
-// A case of one block, or none.
-#[derive(Clone, Copy)]
-pub enum Asked {
-    Block(Case),
-    Nothing,
 }
 
 // The three numbers of a head of 12 bytes. They are lent, as only of lent bytes it is known that each is below 256.
@@ -176,26 +166,66 @@ fn case_of(head: &[u8]) -> Case
     }
 }
 
-// The head of the next case: three numbers of 4 bytes. Where there is none, it is said why.
-pub fn next_case(rt: &HostRuntime) -> Asked
+// The head of the next case: three numbers of 4 bytes.
+pub fn next_case(rt: &HostRuntime) -> Result<Case, Stop>
     ensures { CaseInFour result }
 {
-    let mut b = [0u8; 12];
-    match fill(rt, &mut b) {
-        Next::Number(_) => Asked::Block(case_of(&b)),
-        none => {
-            explain(rt, none);
-            Asked::Nothing
+    let head = read_head::<12>(rt)?;
+    Ok(case_of(&head))
+}
+
+// Answers again and again, until there is nothing to answer or `answer` says that it is enough; where the input stops too early, it is said why.
+// A proved loop has to end, and nothing says that the input does: no run uses up the turns.
+pub fn while_answered<F: FnMut() -> Result<bool, Stop>>(rt: &HostRuntime, mut answer: F)
+    requires { F.IsAlwaysCallable answer }
+{
+    for _ in 0..u64::MAX {
+        match answer() {
+            Ok(true) => {}
+            Ok(false) => return,
+            Err(stop) => {
+                explain(rt, stop);
+                return;
+            }
+        }
+    }
+}
+
+// The next case of one block, and how much of its deck is kept.
+fn next_block(rt: &HostRuntime, deck: &mut [u8]) -> Result<(Case, usize), Stop>
+    ensures { IfOk result (λ block. block.1 ≤ length deck.new) }
+{
+    let case = next_case(rt)?;
+    let kept = read_deck(rt, deck, case.size)?;
+    Ok((case, kept))
+}
+
+// Answers cases of one block, each with its deck.
+pub fn answer_cases<F: FnMut(Case, &[u8]) -> bool>(rt: &HostRuntime, mut answer: F)
+    requires { F.IsAlwaysCallable answer }
+{
+    let mut deck = [0u8; DECK];
+    for _ in 0..u64::MAX {
+        match next_block(rt, &mut deck) {
+            Ok((case, kept)) => {
+                if !answer(case, &deck[..kept]) {
+                    return;
+                }
+            }
+            Err(stop) => {
+                explain(rt, stop);
+                return;
+            }
         }
     }
 }
 
 // Says why there is no number, unless the input ended where it may.
-pub fn explain(rt: &HostRuntime, next: Next) {
-    match next {
-        Next::Cut => say(rt, b"INPUT CUT\n"),
-        Next::Failed => say(rt, b"INPUT FAILED\n"),
-        _ => {}
+pub fn explain(rt: &HostRuntime, stop: Stop) {
+    match stop {
+        Stop::End => {}
+        Stop::Cut => say(rt, b"INPUT CUT\n"),
+        Stop::Failed => say(rt, b"INPUT FAILED\n"),
     }
 }
 

@@ -6,19 +6,19 @@ use Rattle.moves.specs.Text.{move_line}
 use Rattle.moves.proofs.write_answer.Goals as goal
 
 pub write_told-requires : goal.write_told-requires
-write_told-requires c = omega (arith, told_short (bytes "MOVED ") c.in-Moved.count (omega arith))
+write_told-requires c = omega (arith, told_short (bytes "MOVED ") c.in-Ok.count (omega arith))
 
-pub write_told-requires-in-Refused : goal.write_told-requires-in-Refused
-write_told-requires-in-Refused c = omega (arith, told_short (bytes "REFUSED ") c.in-Refused.number (omega arith))
+pub write_told-requires-in-Err : goal.write_told-requires-in-Err
+write_told-requires-in-Err c = omega (arith, told_short (bytes "REFUSED ") c.number.result (omega arith))
 
-pub returns-in-Moved : goal.returns-in-Moved
+pub returns-in-Ok : goal.returns-in-Ok
 unfolding move_line
-returns-in-Moved c =
+returns-in-Ok c =
     let written = c.write_told.ensures in
-    record { text = rw c.in-Moved.is written; short = omega (arith, written.place, told_short (bytes "MOVED ") c.in-Moved.count (omega arith)) }
+    record { text = rw c.in-Ok.is written; short = omega (arith, written.place, told_short (bytes "MOVED ") c.in-Ok.count (omega arith)) }
 
-pub returns-in-Refused : goal.returns-in-Refused
+pub returns-in-Err : goal.returns-in-Err
 unfolding move_line
-returns-in-Refused c =
-    let written = c.write_told-in-Refused.ensures in
-    record { text = rw c.in-Refused.is written; short = omega (arith, written.place, told_short (bytes "REFUSED ") c.in-Refused.number (omega arith)) }
+returns-in-Err c =
+    let written = c.write_told-in-Err.ensures in
+    record { text = rw c.in-Err.is (rw c.number.ensures at written); short = omega (arith, written.place, told_short (bytes "REFUSED ") c.number.result (omega arith)) }
