@@ -8,6 +8,9 @@ use Rattle.rounds.proofs.walk_first.Goals as goal
 within : (a ratio n : ℕ) → a ≡ ordinates_from false ratio 0 n → a ≤ n
 within a ratio n e = rw e (ordinates_within false ratio 0 n)
 
+pub offset_bounds-ordinates-from : goal.offset_bounds-ordinates-from
+offset_bounds-ordinates-from c = let h = within _ _ _ c.ordinates_from-from.ensures in search rules
+
 pub slice_bounds-walk_deck-count : goal.slice_bounds-walk_deck-count
 slice_bounds-walk_deck-count c = within _ _ _ c.ordinates_from-from.ensures
 

@@ -1,5 +1,5 @@
 -- What the round is lent begins within what the run has, and is zeros; what the walk leaves in it is the next round's.
-use Rattle.std.proofs.Common.{rules, ◌≡◌, ◌+◌, ◌-◌, ◌≤◌, ◌++◌, ℕ, Bool, List, length, take, drop, replicate, refl, sym, ap, ◌∙◌, arith}
+use Rattle.std.proofs.Common.{rules, ◌≡◌, ◌+◌, ◌-◌, ◌≤◌, ◌++◌, ℕ, Bool, List, length, take, drop, replicate, is_err, refl, sym, ap, ◌∙◌, arith}
 use Rattle.sequences.specs.Parts.{part, length_part, put_tail}
 use Rattle.blocks.specs.Meant.{ratios_is}
 use Rattle.lending.specs.Lent.{ordinates_from, records_from, ordinates_within, records_within, zeros-part, cleared_drop, cleared_take}
@@ -15,6 +15,12 @@ records-begin b refused blocks place m e = rw e (records_within refused blocks p
 pub clear_from-requires : goal.clear_from-requires
 clear_from-requires c = ordinates-begin _ _ _ _ _ c.ordinates_from-from.ensures
 
+pub offset_bounds-ordinates-from : goal.offset_bounds-ordinates-from
+offset_bounds-ordinates-from c =
+    let h = ordinates-begin _ _ _ _ _ c.ordinates_from-from.ensures in
+    let begin : c.ordinates_from-from.result ≤ length c.clear_from.new.ordinates = omega (arith, h, c.clear_from.auto.ordinates) in
+    search rules
+
 pub slice_bounds-walk_deck-count : goal.slice_bounds-walk_deck-count
 slice_bounds-walk_deck-count c = let h = ordinates-begin _ _ _ _ _ c.ordinates_from-from.ensures in omega (arith, h, c.clear_from.auto.ordinates)
 
@@ -27,8 +33,8 @@ slice_bounds-walk_deck-count-2 c = records-begin _ _ _ _ _ c.records_from-behind
 pub slice_bounds-walk_deck-start-2 : goal.slice_bounds-walk_deck-start-2
 slice_bounds-walk_deck-start-2 c = records-begin _ _ _ _ _ c.records_from-behind.ensures
 
-pub walk_deck-requires-clause-ordinates_value : goal.walk_deck-requires-clause-ordinates_value
-walk_deck-requires-clause-ordinates_value c =
+pub walk_deck-walked-requires-clause-ordinates_value : goal.walk_deck-walked-requires-clause-ordinates_value
+walk_deck-walked-requires-clause-ordinates_value c =
     let x = c.args in
     let a = c.ordinates_from-from.result in
     let b = c.records_from-behind.result in
@@ -58,7 +64,8 @@ returns c =
     let long' : length (part b (m - b) x.records.now) ≡ m - b = length_part b (m - b) x.records.now fits' in
     let walked = rw (long, long') at w.ensures in
     let lent = w.new.ordinates in
-    let from = rw c.is_err.ensures at c.ordinates_from-from.ensures in
+    let err : c.is_err.result ≡ is_err x.found = search rules in
+    let from = rw err at c.ordinates_from-from.ensures in
     rw c.sooner.ensures
     (round_more x.deck.now x.wanted n m x.place x.ordinates.now lent _ x.records.now _ _ refl refl x.found w.result.worked c.requires.rounds c.requires.place_bound.0
     a b from c.records_from-behind.ensures (ratios_is w.result.ratios) walked.worked (w.auto.ordinates ∙ long)
