@@ -9,19 +9,6 @@ use Rattle.text.specs.Counted.{written_counted}
 use Rattle.listing.specs.Printed.{few_roomy, accepted_few, accepted_prints, refused_prints}
 use Rattle.listing.proofs.list_deck.Goals as goal
 
-pub slice_bounds-listed-end : goal.slice_bounds-listed-end
-slice_bounds-listed-end c =
-    let r = c.run_listed-ran in
-    let nine : length r.result.ratios.values ≡ 9 = search rules in
-    omega (arith, r.ensures.listed.1)
-
-pub slice_bounds-write_listing-end-in-Ok : goal.slice_bounds-write_listing-end-in-Ok
-slice_bounds-write_listing-end-in-Ok c =
-    let r = c.run_listed-ran in
-    let nine : length r.result.ratios.values ≡ 9 = search rules in
-    let within : r.result.ratios.count ≤ length r.result.ratios.values = omega (arith, r.ensures.listed.1) in
-    sym (length-take-le _ _ within)
-
 pub write_listing-requires : goal.write_listing-requires
 write_listing-requires c =
     let r = c.run_listed-ran in
