@@ -66,10 +66,13 @@ fn write_answer(out: &mut [u8], answer: Answer) -> usize
     ensures short { result ≤ answer_size }
 {
     match answer {
-        Answer::Accepted(ordinates, blocks, ratios) => {
-            write_counts(out, ordinates as u64, blocks as u64, ratios as u64)
-        }
-        Answer::Refused(number, line) => printing::write_refusal(out, number, line),
+        Ok(accepted) => write_counts(
+            out,
+            accepted.ordinates as u64,
+            accepted.blocks as u64,
+            accepted.ratios as u64,
+        ),
+        Err(refused) => printing::write_refusal(out, refused.refusal.number(), refused.line),
     }
 }
 

@@ -2,7 +2,7 @@
 --     run-names    the run, where it was asked for what is named and has that room
 --     few_left     it leaves no more ordinates than there is room for
 --     hydrograph-accepted, hydrograph-refused    what is written by its answer
-use Rattle.std.specs.Prelude.{ℕ, ◌-◌, ◌≤◌, ◌≡◌, List, ◌++◌, length, take, replicate}
+use Rattle.std.specs.Prelude.{ℕ, ◌-◌, ◌≤◌, ◌≡◌, Err, List, ◌++◌, length, take, replicate}
 use Rattle.std.proofs.Common.{sym, ◌∙◌, arith, length-append}
 use Rattle.std.proofs.Math.Path.{ap}
 use Rattle.std.proofs.lemmas.List.{length-replicate}
@@ -13,9 +13,10 @@ use Rattle.meaning.specs.Records.{most_ordinates}
 use Rattle.meaning.specs.Run.{BeforeTime, Done, named_ratio, named_flow, Outcome, outcome, work_size}
 use Rattle.meaning.specs.Listing.{refused_line}
 use Rattle.meaning.specs.Hydrograph.{hydrograph_text, hydrograph_in, hydrograph}
-use Rattle.answers.specs.declared.Answer as engine
-use Rattle.answers.specs.declared.Answer.TheVariants as answer
-use Rattle.answers.specs.Answers.{answer_is, outcome_is}
+use Rattle.refusals.specs.declared.Refused as refusals
+use Rattle.refusals.specs.Numbers.{refusal_number}
+use Rattle.answers.specs.Answers as engine
+use Rattle.answers.specs.Answers.{accepted_as, answer_is, outcome_is}
 use Rattle.network.specs.Answers.{passed_accepted}
 use Rattle.listing.specs.Sizes.{records_size}
 use Rattle.listing.specs.Fitting.{done_fits}
@@ -42,7 +43,7 @@ module _ (deck : List ℕ) (named ratio : ℕ) (a : engine.Answer) {work ordinat
     answered : answer_is a ≡ (outcome deck named ratio lent_room).answer
     answered = ap (λ (o : Outcome). o.answer) ran
 
-    module _ {nq blocks ratios : ℕ} (told : a ≡ answer.Accepted nq blocks ratios) where
+    module _ {nq blocks ratios : ℕ} (told : a ≡ accepted_as nq blocks ratios) where
       names : Named deck named ratio nq blocks ratios
       names = accepted-named deck named ratio nq blocks ratios (sym answered ∙ ap answer_is told)
 
@@ -74,8 +75,8 @@ module _ (deck : List ℕ) (named ratio : ℕ) (a : engine.Answer) {work ordinat
           → minutes ≡ minutes_at (block_at (lines_of deck) (BeforeTime Fixed) 1) → n ≡ nq → length ordinates ≡ most_ordinates → Written out 0 (hydrograph deck named ratio) next behind
       hydrograph-accepted text minutes-are as_many long = rw (minutes-are, as_many, accepted-text long) at text
 
-    pub hydrograph-refused : {number line n l behind : ℕ} {out next : List ℕ} → a ≡ answer.Refused number line → Written out 0 (refused_line n l) next behind → n ≡ number → l ≡ line
+    pub hydrograph-refused : {why : refusals.Refused} {n l behind : ℕ} {out next : List ℕ} → a ≡ Err why → Written out 0 (refused_line n l) next behind → n ≡ refusal_number why.refusal → l ≡ why.line
         → Written out 0 (hydrograph deck named ratio) next behind
     unfolding hydrograph
-    hydrograph-refused {number} {line} told text same_number same_line =
-        rw (same_number, same_line, ← refused-shown (hydrograph_in named) deck named ratio number line (sym answered ∙ ap answer_is told)) at text
+    hydrograph-refused {why} told text same_number same_line =
+        rw (same_number, same_line, ← refused-shown (hydrograph_in named) deck named ratio (refusal_number why.refusal) why.line (sym answered ∙ ap answer_is told)) at text

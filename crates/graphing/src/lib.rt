@@ -14,7 +14,6 @@ ghost use Rattle.finding.specs.Place.{block_at};
 ghost use Rattle.graphing.specs.Sizes.{most_minutes, line_size, hydrograph_size};
 ghost use Rattle.graphing.specs.Texts.{minutes_at};
 
-use answers::Answer;
 use cells::Measure;
 use listing::{ORDINATES, RECORDS};
 
@@ -69,10 +68,10 @@ pub fn hydrograph_deck(deck: &[u8], named: usize, ratio: usize, out: &mut [u8]) 
     let mut records = [0u8; RECORDS];
     let answer = engine::run(deck, named, ratio, &mut work, &mut ordinates, &mut records);
     match answer {
-        Answer::Accepted(nq, _, _) => {
+        Ok(accepted) => {
             let minutes = minutes_of(deck);
-            write_hydrograph(out, minutes, &ordinates[..nq])
+            write_hydrograph(out, minutes, &ordinates[..accepted.ordinates])
         }
-        Answer::Refused(number, line) => printing::write_refusal(out, number, line),
+        Err(refused) => printing::write_refusal(out, refused.refusal.number(), refused.line),
     }
 }

@@ -19,7 +19,7 @@ use Rattle.meaning.specs.Records.{most_ordinates}
 use Rattle.meaning.specs.Run.{Worked, Stopped, Done, worked, place_of, named_ratio, block_count, record_bytes, Lent, Answer, Accepted, Refused, Outcome, refused, accepted, no_room, settled, outcome, work_size, deck_size}
 use Rattle.meaning.specs.Listing.{refused_line}
 use Rattle.meaning.specs.Shown.{shown_by, shown}
-use Rattle.answers.specs.declared.Answer as engine
+use Rattle.answers.specs.Answers as engine
 use Rattle.answers.specs.Answers.{answer_is, outcome_is}
 use Rattle.passes.specs.Together.{some_ratio}
 use Rattle.network.specs.Answers.{Passed, passed_all}

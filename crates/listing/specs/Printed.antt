@@ -4,7 +4,7 @@
 --     run_prints         the outcome of a deck prints its listing
 --     accepted_prints    and so do the records of an accepted run, which are few
 --     refused_prints     and so does the line of a refusal
-use Rattle.std.specs.Prelude.{ℕ, zero, suc, ◌+◌, ◌-◌, ◌*◌, ◌≤◌, ◌≡◌, refl, Bool, true, false, List, [], ◌∷◌, length, get_or, replicate}
+use Rattle.std.specs.Prelude.{ℕ, zero, suc, ◌+◌, ◌-◌, ◌*◌, ◌≤◌, ◌≡◌, refl, Err, Bool, true, false, List, [], ◌∷◌, length, get_or, replicate}
 use Rattle.std.proofs.Math.Nat.{mul-le-mul_left}
 use Rattle.std.proofs.Common.{arith}
 use borrow.Author.Tests.{le-ltb}
@@ -15,9 +15,10 @@ use Rattle.meaning.specs.Run.{Worked, Stopped, Done, worked, block_count, record
 use Rattle.meaning.specs.Listing.{refused_line, listing_by, listing}
 use Rattle.meaning.specs.Records.{most_ordinates}
 use Rattle.sequences.specs.Bounds.{AllUpTo}
-use Rattle.answers.specs.declared.Answer as engine
-use Rattle.answers.specs.declared.Answer.TheVariants as answer
-use Rattle.answers.specs.Answers.{outcome_is}
+use Rattle.refusals.specs.declared.Refused as refusals
+use Rattle.refusals.specs.Numbers.{refusal_number}
+use Rattle.answers.specs.Answers as engine
+use Rattle.answers.specs.Answers.{accepted_as, outcome_is}
 use Rattle.engine.specs.Outcomes.{listed_in, listed_of, listed_sized}
 use Rattle.text.specs.Written.{Written}
 use Rattle.figures.specs.Line.{line_size}
@@ -110,8 +111,8 @@ module _ (deck : List ℕ) (a : engine.Answer) {work ordinates records : List �
   prints : Prints (listing deck) (listed_of deck work_size) (outcome_is a work ordinates records)
   prints = rw (e, words, flows, bytes) (run_prints deck)
 
-  module _ {nq blocks count : ℕ} (told : a ≡ answer.Accepted nq blocks count) where
-    accepted : Prints (listing deck) (listed_of deck work_size) (outcome_is (answer.Accepted nq blocks count) work ordinates records)
+  module _ {nq blocks count : ℕ} (told : a ≡ accepted_as nq blocks count) where
+    accepted : Prints (listing deck) (listed_of deck work_size) (outcome_is (accepted_as nq blocks count) work ordinates records)
     accepted = rw told at prints
 
     pub accepted_few : {ratios : List ℕ} {n : ℕ} → n ≡ blocks → ratios ≡ listed_of deck w → Few ratios n
@@ -121,8 +122,8 @@ module _ (deck : List ℕ) (a : engine.Answer) {work ordinates records : List �
         → Written out 0 (listing deck) next behind
     accepted_prints text same_blocks listed = rw (same_blocks, listed, words, accepted.same) at text
 
-  pub refused_prints : {number line n l behind : ℕ} {out next : List ℕ} → a ≡ answer.Refused number line → Written out 0 (refused_line n l) next behind → n ≡ number → l ≡ line
+  pub refused_prints : {why : refusals.Refused} {n l behind : ℕ} {out next : List ℕ} → a ≡ Err why → Written out 0 (refused_line n l) next behind → n ≡ refusal_number why.refusal → l ≡ why.line
       → Written out 0 (listing deck) next behind
-  refused_prints told text same_number same_line =
-      let p : Prints (listing deck) (listed_of deck work_size) (outcome_is (answer.Refused _ _) work ordinates records) = rw told at prints in
+  refused_prints {why} told text same_number same_line =
+      let p : Prints (listing deck) (listed_of deck work_size) (outcome_is (Err why) work ordinates records) = rw told at prints in
       rw (same_number, same_line, p.same) at text

@@ -1,7 +1,7 @@
 -- From the answer of a run that names a block and a ratio, with room enough for any deck, to the sheet of that block.
 --     accepted-sheet    where the run is accepted, the sheet is that of the block of the number, where it is found
 --     sheet-accepted, sheet-refused    by the engine's answer
-use Rattle.std.specs.Prelude.{ℕ, ◌-◌, ◌<◌, ◌≡◌, List}
+use Rattle.std.specs.Prelude.{ℕ, ◌-◌, ◌<◌, ◌≡◌, Err, List}
 use Rattle.std.proofs.Math.Path.{sym, ap}
 use Rattle.std.proofs.Common.{◌∙◌, arith}
 use Rattle.std.proofs.Math.ListN.{length}
@@ -11,9 +11,10 @@ use Rattle.meaning.specs.Records.{most_ordinates}
 use Rattle.meaning.specs.Run.{BeforeTime, named_ratio, block_count, Accepted, outcome, work_size}
 use Rattle.meaning.specs.Listing.{refused_line}
 use Rattle.meaning.specs.Sheet.{sheet_in, sheet}
-use Rattle.answers.specs.declared.Answer as engine
-use Rattle.answers.specs.declared.Answer.TheVariants as answer
-use Rattle.answers.specs.Answers.{answer_is, outcome_is}
+use Rattle.refusals.specs.declared.Refused as refusals
+use Rattle.refusals.specs.Numbers.{refusal_number}
+use Rattle.answers.specs.Answers as engine
+use Rattle.answers.specs.Answers.{accepted_as, answer_is, outcome_is}
 use Rattle.network.specs.WorkedBlocks.{as_many_under}
 use Rattle.network.proofs.WorkedBlocks.{done_as_said}
 use Rattle.listing.specs.Sizes.{records_size}
@@ -41,12 +42,12 @@ module _ (deck : List ℕ) (named ratio : ℕ) where
 module _ (deck : List ℕ) (named ratio : ℕ) (a : engine.Answer) {work ordinates records : List ℕ} {w q r : ℕ}
     (e : outcome_is a work ordinates records ≡ outcome deck named ratio (record { work = w; ordinates = q; records = r }))
     (words : w ≡ work_size) (flows : q ≡ most_ordinates) (bytes : r ≡ records_size) where
-  pub sheet-accepted : {nq blocks ratios : ℕ} → a ≡ answer.Accepted nq blocks ratios → (block rate : ℕ) → block ≡ number_of named blocks → rate ≡ number_of ratio ratios
+  pub sheet-accepted : {nq blocks ratios : ℕ} → a ≡ accepted_as nq blocks ratios → (block rate : ℕ) → block ≡ number_of named blocks → rate ≡ number_of ratio ratios
       → sheet_at (rate - 1) (block_at (lines_of deck) (BeforeTime Fixed) block) ≡ sheet deck named ratio
   sheet-accepted {nq} {blocks} {ratios} told block rate own theirs =
       rw (own, theirs) (sym (accepted-sheet deck named ratio nq blocks ratios (sym (said deck named ratio a e words flows bytes) ∙ ap answer_is told)))
 
-  pub sheet-refused : {number line : ℕ} → a ≡ answer.Refused number line → refused_line number line ≡ sheet deck named ratio
+  pub sheet-refused : {why : refusals.Refused} → a ≡ Err why → refused_line (refusal_number why.refusal) why.line ≡ sheet deck named ratio
   unfolding sheet
-  sheet-refused {number} {line} told =
-      sym (refused-shown (sheet_in named) deck named ratio number line (sym (said deck named ratio a e words flows bytes) ∙ ap answer_is told))
+  sheet-refused {why} told =
+      sym (refused-shown (sheet_in named) deck named ratio (refusal_number why.refusal) why.line (sym (said deck named ratio a e words flows bytes) ∙ ap answer_is told))

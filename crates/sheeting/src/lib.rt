@@ -19,7 +19,6 @@ ghost use Rattle.listing.specs.Naming.{number_of};
 ghost use Rattle.sheeting.specs.Sizes.{sheet_size};
 ghost use Rattle.sheeting.specs.Texts.{block_text, sheet_at};
 
-use answers::Answer;
 use blocks::{Name, Time};
 use cells::Measure;
 use listing::{ORDINATES, RECORDS};
@@ -138,11 +137,11 @@ pub fn sheet_deck(deck: &[u8], named: usize, ratio: usize, out: &mut [u8]) -> us
     let mut records = [0u8; RECORDS];
     let answer = engine::run(deck, named, ratio, &mut work, &mut ordinates, &mut records);
     match answer {
-        Answer::Accepted(_, blocks, ratios) => {
-            let block = number_of(named, blocks);
-            let rate = number_of(ratio, ratios);
+        Ok(accepted) => {
+            let block = number_of(named, accepted.blocks);
+            let rate = number_of(ratio, accepted.ratios);
             sheet_block(deck, block, rate, out)
         }
-        Answer::Refused(number, line) => printing::write_refusal(out, number, line),
+        Err(refused) => printing::write_refusal(out, refused.refusal.number(), refused.line),
     }
 }

@@ -9,9 +9,7 @@ use Rattle.meaning.specs.Run.{Lent, Outcome, Accepted, record_bytes, block_count
 use Rattle.meaning.specs.Moving as meaning
 use Rattle.meaning.specs.Moving.{to_new, to_old}
 use Rattle.network.specs.Answers.{passed_all}
-use Rattle.answers.specs.declared.Answer.{Answer}
-use Rattle.answers.specs.declared.Answer.TheVariants as answer
-use Rattle.answers.specs.Answers.{answer_is, outcome_is}
+use Rattle.answers.specs.Answers.{Answer, accepted_as, answer_is, outcome_is}
 use Rattle.forms.specs.declared.Fault.{Fault}
 use Rattle.moving.specs.Answers as moving
 use Rattle.moving.specs.Records.{moved_by}
@@ -33,7 +31,7 @@ roomy named ratio nq blocks ratios lent h =
     ltb-false lent.records (record_bytes blocks ratios) z.1
 
 module _ (deck : List ℕ) (named ratio : ℕ) (lent : Lent) (a : Answer) (work ordinates records : List ℕ) where
-  pub accepted_fits : {nq blocks ratios : ℕ} → outcome_is a work ordinates records ≡ outcome deck named ratio lent → a ≡ answer.Accepted nq blocks ratios
+  pub accepted_fits : {nq blocks ratios : ℕ} → outcome_is a work ordinates records ≡ outcome deck named ratio lent → a ≡ accepted_as nq blocks ratios
       → record_bytes blocks ratios ≤ lent.records
   accepted_fits {nq} {blocks} {ratios} e told =
       let says : (outcome deck named ratio lent).answer ≡ Accepted nq blocks ratios = sym (ap (λ (o : Outcome). o.answer) e) ∙ ap answer_is told in

@@ -7,9 +7,9 @@ ghost use Rattle.std.specs.Prelude.{◌≡◌, length};
 ghost use Rattle.moving.specs.Answers.{outcome_is};
 ghost use Rattle.store.specs.Kept.{moved_as};
 
-use answers::Answer;
 use forms::Fault;
 use listing::{ORDINATES, RECORDS};
+use refusals::Refused;
 use results::RECORD;
 use streams::Stop;
 
@@ -27,9 +27,9 @@ fn zeros() -> [u8; HELD] {
     [0u8; HELD]
 }
 
-fn tell_refusal(rt: &HostRuntime, number: u64, line: u64) {
+fn tell_refusal(rt: &HostRuntime, refused: Refused) {
     let mut out = [0u8; printing::REFUSAL];
-    let n = printing::write_refusal(&mut out, number, line);
+    let n = printing::write_refusal(&mut out, refused.refusal.number(), refused.line);
     streams::say(rt, &out[..n]);
 }
 
@@ -45,11 +45,11 @@ fn keep_records(rt: &HostRuntime, deck: &[u8]) {
     let mut ordinates = [0u64; ORDINATES];
     let mut records = [0u8; RECORDS];
     match engine::run(deck, 0, 0, &mut work, &mut ordinates, &mut records) {
-        Answer::Accepted(_, blocks, ratios) => {
-            let n = RECORD * (blocks * ratios);
+        Ok(accepted) => {
+            let n = RECORD * (accepted.blocks * accepted.ratios);
             streams::print(rt, &records[..n]);
         }
-        Answer::Refused(number, line) => tell_refusal(rt, number, line),
+        Err(refused) => tell_refusal(rt, refused),
     }
 }
 

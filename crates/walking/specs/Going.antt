@@ -2,7 +2,7 @@
 --     Going      the run's invariant: the walk over the lines left, from here, is the walk over the deck
 --     WorkedIs   what the deck came to, and WalkedIs with its ratios
 use Rattle.std.specs.Prelude as std
-use Rattle.std.specs.Prelude.{ℕ, ◌+◌, ◌-◌, ◌*◌, ◌≤◌, ◌<◌, ◌≡◌, Ok, Err, List, [], ◌∷◌, ◌++◌, length, drop, get_or, replicate}
+use Rattle.std.specs.Prelude.{ℕ, ◌+◌, ◌-◌, ◌*◌, ◌≤◌, ◌<◌, ◌≡◌, Ok, Err, IfOk, List, [], ◌∷◌, ◌++◌, length, drop, get_or, replicate}
 use Rattle.sequences.specs.Parts.{part}
 use Rattle.meaning.specs.Lines.{lines_of}
 use Rattle.meaning.specs.Blocks.{Time, or_whole, ratio_at, Block}
@@ -24,9 +24,10 @@ use Rattle.writing.specs.WrittenResult.{record_told, record_put, copied_named}
 use Rattle.closing.specs.ClosedBlock.{Closes}
 use Rattle.closing.specs.BetweenBlocks.{Carried, HeldAfter}
 use Rattle.turns.specs.declared.State.{State}
+use Rattle.refusals.specs.declared.Refusal.{Refusal}
 use Rattle.refusals.specs.declared.Refused.{Refused}
-use Rattle.refusals.specs.Numbers.{refusal_number, refusal_in}
-use Rattle.turns.specs.Turns.{Finished, stack_in}
+use Rattle.refusals.specs.Numbers.{refusal_number}
+use Rattle.turns.specs.Turns.{Finished}
 use Rattle.turns.specs.declared.Worked.{Worked}
 use Rattle.turns.specs.declared.Turn.{Turn}
 use Rattle.turns.specs.declared.Turn.TheVariants as turn
@@ -111,14 +112,18 @@ abbrev pub reading_under : ℕ → Reading → Reading
 reading_under place r =
     record { phase = r.phase; free = r.free; time = time_under (get_or (ratios_is r.time.ratios) place 100) r.time; name = r.name }
 
+-- what is held where a block is closed, or what it is refused for
+abbrev pub held_of : std.Result Closed Refusal → Finished
+held_of (Ok c) = Ok c.held
+held_of (Err r) = Err r
+
 -- A block finished: closed, and, if it was not refused, its result written under the ratio at a place, counted from 0.
 pub record Finishes (τ : Time) (b : Block) (s : Stack) (named place k : ℕ) (x : Finished) (work work' ordinates ordinates' records records' : List ℕ) : Type 0 where
-  pub closed : Closed
+  pub closed : std.Result Closed Refusal
   pub closes : Closes τ b s work closed work'
-  pub number : refusal_in x ≡ closed.refusal
-  pub held : stack_in x ≡ closed.held
-  pub copied : refusal_in x ≡ 0 → ordinates' ≡ copied_named named k τ.ordinates (part (most_ordinates * (closed.held.depth - 1)) τ.ordinates work') ordinates
-  pub written : refusal_in x ≡ 0 → records' ≡ record_put k (record_told b.name τ.ratio (place + 1) closed) records
+  pub held : x ≡ held_of closed
+  pub copied : IfOk closed (λ c. ordinates' ≡ copied_named named k τ.ordinates (part (most_ordinates * (c.held.depth - 1)) τ.ordinates work') ordinates)
+  pub written : IfOk closed (λ c. records' ≡ record_put k (record_told b.name τ.ratio (place + 1) c) records)
 
 -- where a block closes, by the phase: the open block is finished; else nothing was open
 abbrev pub ClosedBy : Phase → Reading → Stack → (blocks named place : ℕ) → Finished → (work work' ordinates ordinates' records records' cards : List ℕ) → Type 0

@@ -31,10 +31,7 @@ fn finish_block(
     requires { MayFinish r held k asked.place work.old cards.now }
     ensures { Finishes (time_is r.time) (block_is r cards.now) held asked.named asked.place k result work.old work.new ordinates.old ordinates.new records.old records.new }
 {
-    let closed = closing::close_block(work, held, r.time, cards);
-    if closed.refusal != 0 {
-        return Err(Refusal::LittleWork);
-    }
+    let closed = closing::close_block(work, held, r.time, cards)?;
     writing::write_result(r.name, closed, k, asked, r.time, work, ordinates, records);
     Ok(closed.held)
 }

@@ -1,5 +1,5 @@
 -- By the engine's answer: the ordinates that the run leaves for what is named, at the minutes of the deck's time control, or the line of the refusal.
-use Rattle.std.proofs.Common.{rules, ◌≡◌, length, sym, arith}
+use Rattle.std.proofs.Common.{rules, ◌≡◌, length, refl, sym, arith}
 use lib.Seq.{length-take-le}
 use Rattle.meaning.specs.Records.{most_ordinates}
 use Rattle.text.specs.Counted.{written_counted}
@@ -12,7 +12,7 @@ slice_bounds-ordinates-end c =
     let ran = c.run-answer in
     let named = run-names x.deck.now x.named x.ratio ran.result ran.ensures (omega arith) (omega arith) (omega arith) (omega arith) (omega arith) in
     let long : length ran.new.ordinates ≡ most_ordinates = search rules in
-    omega (arith, few_left x.deck.now x.named x.ratio ran.result named c.in-Accepted.is, long)
+    omega (arith, few_left x.deck.now x.named x.ratio ran.result named {nq = c.in-Ok.accepted.ordinates} {blocks = c.in-Ok.accepted.blocks} {ratios = c.in-Ok.accepted.ratios} c.in-Ok.is, long)
 
 pub slice_bounds-write_hydrograph-end : goal.slice_bounds-write_hydrograph-end
 slice_bounds-write_hydrograph-end c =
@@ -20,23 +20,23 @@ slice_bounds-write_hydrograph-end c =
     let ran = c.run-answer in
     let named = run-names x.deck.now x.named x.ratio ran.result ran.ensures (omega arith) (omega arith) (omega arith) (omega arith) (omega arith) in
     let long : length ran.new.ordinates ≡ most_ordinates = search rules in
-    sym (length-take-le _ _ (omega (arith, few_left x.deck.now x.named x.ratio ran.result named c.in-Accepted.is, long)))
+    sym (length-take-le _ _ (omega (arith, few_left x.deck.now x.named x.ratio ran.result named {nq = c.in-Ok.accepted.ordinates} {blocks = c.in-Ok.accepted.blocks} {ratios = c.in-Ok.accepted.ratios} c.in-Ok.is, long)))
 
-pub returns-in-Accepted : goal.returns-in-Accepted
-returns-in-Accepted c =
+pub returns-in-Ok : goal.returns-in-Ok
+returns-in-Ok c =
     let x = c.args in
     let ran = c.run-answer in
     let written = c.write_hydrograph.ensures in
     let named = run-names x.deck.now x.named x.ratio ran.result ran.ensures (omega arith) (omega arith) (omega arith) (omega arith) (omega arith) in
     let text =
-    hydrograph-accepted x.deck.now x.named x.ratio ran.result named c.in-Accepted.is {n = c.in-Accepted.nq} written c.minutes_of-minutes.ensures.0 (omega arith) (search rules) in
+    hydrograph-accepted x.deck.now x.named x.ratio ran.result named {nq = c.in-Ok.accepted.ordinates} {blocks = c.in-Ok.accepted.blocks} {ratios = c.in-Ok.accepted.ratios} c.in-Ok.is {n = c.in-Ok.accepted.ordinates} written c.minutes_of-minutes.ensures.0 (omega arith) (search rules) in
     record { told = text; counted = written_counted written }
 
-pub returns-in-Refused : goal.returns-in-Refused
-returns-in-Refused c =
+pub returns-in-Err : goal.returns-in-Err
+returns-in-Err c =
     let x = c.args in
     let ran = c.run-answer in
     let written = c.write_refusal.ensures in
     let named = run-names x.deck.now x.named x.ratio ran.result ran.ensures (omega arith) (omega arith) (omega arith) (omega arith) (omega arith) in
-    let text = hydrograph-refused x.deck.now x.named x.ratio ran.result named c.in-Refused.is written (omega arith) (omega arith) in
+    let text = hydrograph-refused x.deck.now x.named x.ratio ran.result named c.in-Err.is written c.number.ensures refl in
     record { told = text; counted = written_counted written }

@@ -1,5 +1,5 @@
 -- What the engine answers prints the deck's listing, by `accepted_prints` and `refused_prints`: the records of no more blocks and ratios than are lent for, or the one line.
-use mathlib.Core.Path.{◌≡◌, sym}
+use mathlib.Core.Path.{◌≡◌, refl, sym}
 use Prim.Native.Nat.{◌≤◌}
 use native.Mathlib.Omega.{arith}
 use lib.ListN.{length}
@@ -9,38 +9,25 @@ use Rattle.text.specs.Counted.{written_counted}
 use Rattle.listing.specs.Printed.{few_roomy, accepted_few, accepted_prints, refused_prints}
 use Rattle.listing.proofs.list_deck.Goals as goal
 
-pub slice_bounds-listed-end : goal.slice_bounds-listed-end
-slice_bounds-listed-end c =
-    let r = c.run_listed-ran in
-    let nine : length r.result.ratios.values ≡ 9 = search rules in
-    omega (arith, r.ensures.listed.1)
-
-pub slice_bounds-write_listing-end-in-Accepted : goal.slice_bounds-write_listing-end-in-Accepted
-slice_bounds-write_listing-end-in-Accepted c =
-    let r = c.run_listed-ran in
-    let nine : length r.result.ratios.values ≡ 9 = search rules in
-    let within : r.result.ratios.count ≤ length r.result.ratios.values = omega (arith, r.ensures.listed.1) in
-    sym (length-take-le _ _ within)
-
 pub write_listing-requires : goal.write_listing-requires
 write_listing-requires c =
     let r = c.run_listed-ran in
     few_roomy _ _
-    (accepted_few c.args.deck.now r.result.answer r.ensures.records_after (omega arith) (omega arith) (omega arith) c.in-Accepted.is (omega arith) r.ensures.listed.0)
+    (accepted_few c.args.deck.now r.result.answer r.ensures.records_after (omega arith) (omega arith) (omega arith) {nq = c.in-Ok.accepted.ordinates} {blocks = c.in-Ok.accepted.blocks} {count = c.in-Ok.accepted.ratios} c.in-Ok.is (omega arith) r.ensures.listed.0)
     _ _ (omega arith) (omega arith)
 
-pub returns-in-Accepted : goal.returns-in-Accepted
-returns-in-Accepted c =
+pub returns-in-Ok : goal.returns-in-Ok
+returns-in-Ok c =
     let r = c.run_listed-ran in
     let w = c.write_listing.ensures in
     let printed =
-    accepted_prints c.args.deck.now r.result.answer r.ensures.records_after (omega arith) (omega arith) (omega arith) c.in-Accepted.is w (omega arith) r.ensures.listed.0 in
+    accepted_prints c.args.deck.now r.result.answer r.ensures.records_after (omega arith) (omega arith) (omega arith) {nq = c.in-Ok.accepted.ordinates} {blocks = c.in-Ok.accepted.blocks} {count = c.in-Ok.accepted.ratios} c.in-Ok.is w (omega arith) r.ensures.listed.0 in
     record { listed = printed; counted = written_counted w }
 
-pub returns-in-Refused : goal.returns-in-Refused
-returns-in-Refused c =
+pub returns-in-Err : goal.returns-in-Err
+returns-in-Err c =
     let r = c.run_listed-ran in
     let w = c.write_refusal.ensures in
     let printed =
-    refused_prints c.args.deck.now r.result.answer r.ensures.records_after (omega arith) (omega arith) (omega arith) c.in-Refused.is w (omega arith) (omega arith) in
+    refused_prints c.args.deck.now r.result.answer r.ensures.records_after (omega arith) (omega arith) (omega arith) c.in-Err.is w c.number.ensures refl in
     record { listed = printed; counted = written_counted w }
