@@ -26,10 +26,7 @@ fn copy_name(f: &[u8]) -> Name
     let mut bytes = [0u8; 6];
     let letters = f.len();
     bytes[..letters].copy_from_slice(f);
-    Name {
-        bytes,
-        letters,
-    }
+    Name { bytes, letters }
 }
 
 // The name that a KK line gives, where it is one.

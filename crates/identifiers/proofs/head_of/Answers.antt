@@ -36,9 +36,9 @@ returns-in_default c =
     let small : get_or l 1 0 < 256 = omega (arith, c.type_inv.l 1) in
     let key = c.key_of.result in
     let five : behind key (unread l) ≡ by_key key (unread l) = rw c.key_of.ensures (elim c.in_default-1.branch [
-        in_default-via-in-73+in_default-1 w ↦ behind_five _ _ (λ g. omega arith) (λ g. omega arith) (λ g. omega arith) (λ g. omega arith) (λ g. omega arith) |
-        in_default-via-in-74+in_default-1 w ↦ behind_five _ _ (λ g. omega arith) (λ g. omega arith) (λ g. omega arith) (λ g. omega arith) (λ g. omega arith) |
-        in_default-via-in-75+in_default-1 w ↦ behind_five _ _ (λ g. omega arith) (λ g. omega arith) (λ g. omega arith) (λ g. omega arith) (λ g. omega arith) |
-        in_default-via-in_default-1 w ↦ behind_five _ _ (λ g. omega arith) (λ g. omega arith) (λ g. omega arith) (λ g. omega arith) (λ g. omega arith)
+      | in_default-via-in-73+in_default-1 w ↦ behind_five _ _ (λ g. omega arith) (λ g. omega arith) (λ g. omega arith) (λ g. omega arith) (λ g. omega arith)
+      | in_default-via-in-74+in_default-1 w ↦ behind_five _ _ (λ g. omega arith) (λ g. omega arith) (λ g. omega arith) (λ g. omega arith) (λ g. omega arith)
+      | in_default-via-in-75+in_default-1 w ↦ behind_five _ _ (λ g. omega arith) (λ g. omega arith) (λ g. omega arith) (λ g. omega arith) (λ g. omega arith)
+      | in_default-via-in_default-1 w ↦ behind_five _ _ (λ g. omega arith) (λ g. omega arith) (λ g. omega arith) (λ g. omega arith) (λ g. omega arith)
     ]) in
     (c.head_by.ensures.0 ∙ five ∙ ap (λ w. by_key w (unread l)) c.key_of.ensures ∙ at_key l c.if-l-lt2.false small _ _ refl refl, c.head_by.ensures.1)
