@@ -19,14 +19,14 @@ ratio_at-rate-requires c =
 
 pub write_sheet-requires : goal.write_sheet-requires
 write_sheet-requires c =
-    let own : c.before.result ≡ c.args.ratio - 1 = omega (arith, c.before.ensures) in
+    let own : c.saturating_sub.result ≡ c.args.ratio - 1 = omega (arith, c.saturating_sub.ensures) in
     let sheet = shown_there c.in-Some.found c.find_block.new.cards (block_at (lines_of c.args.deck.now) (BeforeTime Fixed) c.args.number) c.in-Some.ensures _ _
     (c.ratio_at-rate.ensures ∙ ap (λ (k : ℕ). get_or (ratios_is c.in-Some.found.time.ratios) k 100) own) in
-    (rw c.under.ensures sheet.read, (sheet.letters, c.requires))
+    record { read = rw c.under.ensures sheet.read; letters_bound = (sheet.letters, c.requires) }
 
 pub returns : goal.returns
 returns c =
-    let own : c.before.result ≡ c.args.ratio - 1 = omega (arith, c.before.ensures) in
+    let own : c.saturating_sub.result ≡ c.args.ratio - 1 = omega (arith, c.saturating_sub.ensures) in
     let sheet = shown_there c.in-Some.found c.find_block.new.cards (block_at (lines_of c.args.deck.now) (BeforeTime Fixed) c.args.number) c.in-Some.ensures _ _
     (c.ratio_at-rate.ensures ∙ ap (λ (k : ℕ). get_or (ratios_is c.in-Some.found.time.ratios) k 100) own) in
     let text = ap (λ (t : Time). sheet_text (time_is t) (block_of (name_is c.in-Some.found.name) c.find_block.new.cards)) c.under.ensures ∙ sheet.text in
