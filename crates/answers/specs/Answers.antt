@@ -10,7 +10,6 @@ use Rattle.meaning.specs.Words.{◌<?◌, when◌then◌else◌, met, first}
 use Rattle.meaning.specs.Run as run
 use Rattle.meaning.specs.Run.{Outcome, Lent, record_bytes, refused, work_size, deck_size}
 use Rattle.refusals.specs.declared.Refused.{Refused}
-use Rattle.refusals.specs.Numbers.{refusal_number, same_number}
 use Rattle.answers.specs.declared.Accepted.{Accepted}
 
 abbrev pub Answer : Type 0
@@ -21,7 +20,7 @@ accepted_as nq blocks ratios = Ok (record { ordinates = nq; blocks = blocks; rat
 
 abbrev pub answer_is : Answer → run.Answer
 answer_is (Ok a) = run.Accepted a.ordinates a.blocks a.ratios
-answer_is (Err r) = run.Refused (refusal_number r.refusal) r.line
+answer_is (Err r) = run.Refused r.number r.line
 
 -- an answer is told by what it means
 pub answer-told : (x y : Answer) → answer_is x ≡ answer_is y → x ≡ y
@@ -33,10 +32,9 @@ answer-told (Ok a) (Ok b) h =
 answer-told (Ok a) (Err s) h = cc
 answer-told (Err r) (Ok b) h = cc
 answer-told (Err r) (Err s) h =
-    let numbers : refusal_number r.refusal ≡ refusal_number s.refusal = cc in
-    let same = same_number r.refusal s.refusal numbers in
+    let numbers : r.number ≡ s.number = cc in
     let lines : r.line ≡ s.line = cc in
-    rw (same, lines)
+    rw (numbers, lines)
 
 abbrev pub outcome_is : Answer → (work ordinates records : List ℕ) → Outcome
 outcome_is a work ordinates records = record { answer = answer_is a; work = work; ordinates = ordinates; records = records }
@@ -61,7 +59,7 @@ settled_as nq blocks ratios named ratio work ordinates records =
 -- zeros in each of the three are a refusal
 module _ (r : Refused) (words flows bytes words' flows' bytes' : List ℕ) where
   pub zeros-refuse : words' ≡ replicate (length words) 0 → flows' ≡ replicate (length flows) 0 → bytes' ≡ replicate (length bytes) 0
-      → outcome_is (Err r) words' flows' bytes' ≡ refused (refusal_number r.refusal) r.line (lent_as words flows bytes)
+      → outcome_is (Err r) words' flows' bytes' ≡ refused r.number r.line (lent_as words flows bytes)
   zeros-refuse w f b = rw (w, f, b)
 
 -- zeros in the words that the run worked in, and the results as they stand

@@ -4,7 +4,7 @@
 
 ghost use Rattle.std.specs.Prelude.{◌≡◌, ◌≤◌};
 ghost use Rattle.meaning.specs.Run.{refused, most_blocks};
-ghost use Rattle.refusals.specs.Numbers.{refusal_number, refusal_in};
+ghost use Rattle.refusals.specs.Numbers.{refusal_in};
 ghost use Rattle.answers.specs.Answers.{outcome_is, lent_as, lacking, size_refusal, settled_as};
 
 use refusals::{Refusal, Refused};
@@ -45,13 +45,13 @@ pub fn size_refusal(work: usize, deck: usize) -> Result<(), Refusal>
     Ok(())
 }
 
-// Refuses, and leaves nothing in what was lent.
+// Refuses by any number, and leaves nothing in what was lent.
 pub fn refuse(reason: Refused, words: &mut [u64], flows: &mut [u64], bytes: &mut [u8]) -> Answer
-    ensures { outcome_is result words.new flows.new bytes.new ≡ refused (refusal_number reason.refusal) reason.line (lent_as words.old flows.old bytes.old) }
+    ensures { outcome_is result words.new flows.new bytes.new ≡ refused reason.number reason.line (lent_as words.old flows.old bytes.old) }
 {
-    words.fill(0);
-    flows.fill(0);
-    bytes.fill(0);
+    slices::zero_words(words);
+    slices::zero_words(flows);
+    slices::fill_bytes(bytes, 0);
     Err(reason)
 }
 
@@ -78,12 +78,8 @@ pub fn settle(
     ensures { outcome_is result work.new ordinates.new records.new ≡ settled_as found.ordinates found.blocks found.ratios wanted.block wanted.ratio work.old ordinates.old records.old }
 {
     if lacks_room(found, wanted, ordinates.len(), records.len()) {
-        let reason = Refused {
-            refusal: Refusal::LittleRoom,
-            line: 0,
-        };
-        return refuse(reason, work, ordinates, records);
+        return refuse(Refusal::LittleRoom.at_line(0), work, ordinates, records);
     }
-    work.fill(0);
+    slices::zero_words(work);
     Ok(found)
 }

@@ -4,7 +4,7 @@ use Prim.Native.Nat.{ℕ}
 use mathlib.Core.Path.{◌≡◌, refl, sym, ◌∙◌}
 use mathlib.Core.List.{List, []}
 use Rattle.sequences.specs.OneOutcome.{Once}
-use Rattle.refusals.specs.Numbers.{refusal_in}
+use Rattle.refusals.specs.Numbers.{refusal_in, same_result}
 use Rattle.meaning.specs.Blocks.{Time}
 use Rattle.blocks.specs.Cards.{block_of}
 use Rattle.blocks.specs.Meant.{ratios_is}
@@ -42,11 +42,11 @@ one_value_at κs a x y e f p q = p [] ∙ sym (q [])
 pub one_clear : Once clear.ps clear.r clear-says.Post (λ κs x y e f. (name : List ℕ) → block_of name e.0.now ≡ block_of name f.0.now)
 one_clear κs a x y e f p q name = p.0 name ∙ sym (q.0 name)
 
-pub one_take-values : Once take-values.ps take-values.r take-values-says.Post (λ κs x y e f. (refusal_in x ≡ refusal_in y) × ((name : List ℕ) → block_of name e.0.now ≡ block_of name f.0.now))
+pub one_take-values : Once take-values.ps take-values.r take-values-says.Post (λ κs x y e f. (x ≡ y) × ((name : List ℕ) → block_of name e.0.now ≡ block_of name f.0.now))
 one_take-values κs a x y e f p q =
     let τ : Time = record { minutes = 0; ordinates = a.1.1.1.1.0; ratio = 100; listed = [] } in
     let same : refusal_in x ≡ refusal_in y = p.number τ refl [] ∙ sym (q.number τ refl []) in
-    (same, λ (name : List ℕ). (rw same at (p.block name)) ∙ sym (q.block name))
+    (same_result x y same (λ u v h k. refl), λ (name : List ℕ). (rw same at (p.block name)) ∙ sym (q.block name))
 
 -- JR's ratios are equal as the lists that they mean: what stands behind the count is scratch
 pub one_no_ratios : Once no-ratios.ps no-ratios.r no-ratios-says.Post (λ κs x y e f. ratios_is x ≡ ratios_is y)

@@ -72,7 +72,7 @@ fn write_answer(out: &mut [u8], answer: Answer) -> usize
             accepted.blocks as u64,
             accepted.ratios as u64,
         ),
-        Err(refused) => printing::write_refusal(out, refused.refusal.number(), refused.line),
+        Err(refused) => printing::write_refusal(out, refused.number, refused.line),
     }
 }
 

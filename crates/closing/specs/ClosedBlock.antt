@@ -1,5 +1,6 @@
 -- A block closed: the answer, and what is held then.
---     answer_by            the answer, told by the refusal
+--     answer_by            the answer, told by the refusal: a refused block leaves what was held before
+--     closing_told         what is told of a block by what its refusals come to
 --     Closes              the outcome: the refusal, the answer and the words; and of what is held then, Keeps
 --     closes_by_shape     how it comes about: refused by its shape,
 --     closes_by_rise, closes_by_flow, closes_held     or made and held, and then refused by 20, by 13 or not
@@ -14,29 +15,46 @@ use Rattle.meaning.specs.Results.{peak_of}
 use Rattle.meaning.specs.Run.{taken_by, held_for, held_after, shape_refusal, flow_refusal}
 use Rattle.refusals.specs.declared.Refusal.{Refusal}
 use Rattle.refusals.specs.declared.Refusal.TheVariants as refusal
-use Rattle.refusals.specs.Numbers.{refusal_number, refusal_in, named_by, named_back, some_number}
+use Rattle.refusals.specs.Numbers.{refusal_number, named_by, named_back, some_number}
 use Rattle.passes.specs.One.{closing_under}
 use Rattle.stack.specs.declared.Stack.{Stack}
 use Rattle.stack.specs.View.{view, length_held}
 use Rattle.stack.specs.Limits.{Within}
 use Rattle.summary.specs.declared.Summary.{Summary}
-use Rattle.summary.specs.Summary.{summary_of}
+use Rattle.summary.specs.Summary.{no_summary, summary_of}
 use Rattle.shaping.specs.Limits.{CardsWithin}
 use Rattle.shaping.specs.Shapes.{takes-by, shaped_passes}
 use Rattle.making.specs.Made.{stack_by, words_by, Makes}
 use Rattle.telling.specs.declared.Closed.{Closed}
 use Rattle.telling.specs.LastHeld.{Last, view_last}
+use Rattle.closing.specs.declared.Unclosed.{Unclosed}
 use Rattle.closing.specs.Sizes.{area_after, within_after}
 
-abbrev pub refused_block : ℕ → Result Closed Refusal
-refused_block n = Err (named_by n)
+-- the number of the refusal, 0 for none
+abbrev pub number_in : Result Closed Unclosed → ℕ
+number_in (Ok c) = 0
+number_in (Err u) = refusal_number u.refusal
+
+-- what was held before is held, and nothing is told of the block
+abbrev pub unclosed : Refusal → Stack → Unclosed
+unclosed x s = record { refusal = x; told = record { held = s; kind = 0; area = 0; summary = no_summary } }
+
+abbrev pub refused_as : Refusal → Stack → Result Closed Unclosed
+refused_as x s = Err (unclosed x s)
+
+abbrev pub closing_told : Stack → Result Closed Refusal → Result Closed Unclosed
+closing_told s (Ok c) = Ok c
+closing_told s (Err x) = refused_as x s
+
+abbrev pub refused_block : ℕ → Stack → Result Closed Unclosed
+refused_block n s = refused_as (named_by n) s
 
 abbrev pub closed_block : Kind → Block → Stack → Held → Closed
 closed_block k b s h = record { held = stack_by k b s; kind = kind_number k; area = h.area; summary = summary_of h.flow }
 
-abbrev pub answer_by : (refusal : ℕ) → Kind → Block → Stack → Held → Result Closed Refusal
+abbrev pub answer_by : (refusal : ℕ) → Kind → Block → Stack → Held → Result Closed Unclosed
 answer_by zero k b s h = Ok (closed_block k b s h)
-answer_by (suc n) k b s h = refused_block (suc n)
+answer_by (suc n) k b s h = refused_block (suc n) s
 
 abbrev pub words_after : (refusal : ℕ) → Kind → Time → Block → Stack → List ℕ → List ℕ
 words_after zero k τ b s w = words_by k τ b s w
@@ -51,8 +69,8 @@ pub record Keeps (τ : Time) (b : Block) (before : List Held) (next : Stack) (w 
   pub areas : (total (view next τ.ordinates w)).area ≤ (total before).area + 999_999
 
 -- A refusal leaves what was held before as it was: nothing else is answered.
-pub record Closes (τ : Time) (b : Block) (s : Stack) (w : List ℕ) (r : Result Closed Refusal) (w' : List ℕ) : Type 0 where
-  pub number : refusal_in r ≡ closing_under τ b (view s τ.ordinates w)
+pub record Closes (τ : Time) (b : Block) (s : Stack) (w : List ℕ) (r : Result Closed Unclosed) (w' : List ℕ) : Type 0 where
+  pub number : number_in r ≡ closing_under τ b (view s τ.ordinates w)
   pub answer : r ≡ answer_by (closing_under τ b (view s τ.ordinates w)) (kind_of b) b s (held_for τ b (view s τ.ordinates w))
   pub words : w' ≡ words_after (shape_refusal τ b s.depth) (kind_of b) τ b s w
   pub keeps : IfOk r (λ c. Keeps τ b (view s τ.ordinates w) c.held w')
@@ -67,12 +85,12 @@ closing_flow τ b held e = rw e
 
 -- the answer
 module _ (k : Kind) (b : Block) (s : Stack) (h : Held) where
-  answer_some : (n : ℕ) → (n ≡ 0 → ⊥) → refused_block n ≡ answer_by n k b s h
+  answer_some : (n : ℕ) → (n ≡ 0 → ⊥) → refused_block n s ≡ answer_by n k b s h
   answer_some zero some = absurd (some refl)
   answer_some (suc n) some = refl
 
-  pub answer-refused : (x : Refusal) → Err x ≡ answer_by (refusal_number x) k b s h
-  answer-refused x = ap Err (sym (named_back x)) ∙ answer_some (refusal_number x) (some_number x)
+  pub answer-refused : (x : Refusal) → refused_as x s ≡ answer_by (refusal_number x) k b s h
+  answer-refused x = ap (λ (y : Refusal). refused_as y s) (sym (named_back x)) ∙ answer_some (refusal_number x) (some_number x)
 
   pub answer_none : (n : ℕ) {c : Closed} → Ok c ≡ answer_by n k b s h → 0 ≡ n → c ≡ closed_block k b s h
   answer_none zero e z = cc
@@ -90,7 +108,7 @@ module _ (τ : Time) (b : Block) (s : Stack) (w : List ℕ) where
   shape : shape_refusal τ b (length before) ≡ shape_refusal τ b s.depth
   shape = ap (shape_refusal τ b) (length_held τ.ordinates s.areas s.depth w)
 
-  refused_by : (x : Refusal) {w' : List ℕ} → closing_under τ b before ≡ refusal_number x → w' ≡ words_after (shape_refusal τ b s.depth) (kind_of b) τ b s w → Closes τ b s w (Err x) w'
+  refused_by : (x : Refusal) {w' : List ℕ} → closing_under τ b before ≡ refusal_number x → w' ≡ words_after (shape_refusal τ b s.depth) (kind_of b) τ b s w → Closes τ b s w (refused_as x s) w'
   refused_by x e words =
       record {
         number = sym e;
@@ -99,7 +117,7 @@ module _ (τ : Time) (b : Block) (s : Stack) (w : List ℕ) where
         keeps = tt;
       }
 
-  pub closes_by_shape : (x : Refusal) → refusal_number x ≡ shape_refusal τ b s.depth → Closes τ b s w (Err x) w
+  pub closes_by_shape : (x : Refusal) → refusal_number x ≡ shape_refusal τ b s.depth → Closes τ b s w (refused_as x s) w
   closes_by_shape x is =
       refused_by x (closing_shape τ b before _ (some_number x) (shape ∙ sym is))
       (unmade (kind_of b) τ b s w _ (some_number x) ∙ ap (λ (m : ℕ). words_after m (kind_of b) τ b s w) is)
@@ -121,13 +139,13 @@ module _ (τ : Time) (b : Block) (s : Stack) (w : List ℕ) where
         omega
         (arith, room, takes-by b refl, length_held τ.ordinates next.areas next.depth w', ap length makes.held, length-drop (takes b) before)
 
-    pub closes_by_rise : overtops τ b (taken_by b before) ≡ true → Closes τ b s w (Err refusal.Overtopped) w'
+    pub closes_by_rise : overtops τ b (taken_by b before) ≡ true → Closes τ b s w (refused_as refusal.Overtopped s) w'
     unfolding flow_refusal
     closes_by_rise rises =
         let twenty : closing_under τ b before ≡ 20 = closing_flow τ b before sound ∙ rw rises in
         refused_by refusal.Overtopped twenty words-made
 
-    pub closes_by_flow : overtops τ b (taken_by b before) ≡ false → flow_limit < peak_of (held_for τ b before).flow → Closes τ b s w (Err refusal.FlowAboveLimit) w'
+    pub closes_by_flow : overtops τ b (taken_by b before) ≡ false → flow_limit < peak_of (held_for τ b before).flow → Closes τ b s w (refused_as refusal.FlowAboveLimit s) w'
     unfolding flow_refusal
     closes_by_flow stays high =
         let thirteen : closing_under τ b before ≡ 13 = closing_flow τ b before sound ∙ rw (stays, lt-ltb flow_limit (peak_of (held_for τ b before).flow) high) in

@@ -9,8 +9,6 @@ use Rattle.meaning.specs.Blocks.{Time, Block, kind_of}
 use Rattle.meaning.specs.Results.{Result, record_of}
 use Rattle.meaning.specs.Run.{held_for}
 use Rattle.meaning.specs.Records.{most_ordinates}
-use Rattle.refusals.specs.declared.Refusal.{Refusal}
-use Rattle.refusals.specs.Numbers.{refusal_in}
 use Rattle.stack.specs.declared.Stack.{Stack}
 use Rattle.stack.specs.View.{view}
 use Rattle.results.specs.Record.{record_of_lem}
@@ -18,13 +16,14 @@ use Rattle.telling.specs.declared.Closed.{Closed}
 use Rattle.telling.specs.LastHeld.{view_last}
 use Rattle.writing.specs.WrittenResult.{record_told}
 use Rattle.passes.specs.One.{closing_under}
-use Rattle.closing.specs.ClosedBlock.{Closes, closed_block, answer_none}
+use Rattle.closing.specs.declared.Unclosed.{Unclosed}
+use Rattle.closing.specs.ClosedBlock.{number_in, Closes, closed_block, answer_none}
 
 abbrev pub result_of : Time → Block → Stack → List ℕ → Result
 result_of τ b s w = record { block = b; held = held_for τ b (view s τ.ordinates w) }
 
 module _ {τ : Time} {b : Block} {s : Stack} {w w' : List ℕ} where
-  pub told_number : {r : prelude.Result Closed Refusal} → Closes τ b s w r w' → refusal_in r ≡ closing_under τ b (view s τ.ordinates w)
+  pub told_number : {r : prelude.Result Closed Unclosed} → Closes τ b s w r w' → number_in r ≡ closing_under τ b (view s τ.ordinates w)
   told_number closes = closes.number
 
   module _ {c : Closed} (closes : Closes τ b s w (Ok c) w') where

@@ -3,7 +3,6 @@
 
 ghost use Rattle.std.specs.Prelude.{◌≡◌, [], ◌≤◌, length};
 ghost use Rattle.meaning.specs.Run.{refused, outcome};
-ghost use Rattle.refusals.specs.Numbers.{refusal_number};
 ghost use Rattle.blocks.specs.Meant.{ratios_is};
 ghost use Rattle.answers.specs.Answers.{outcome_is, lent_as};
 ghost use Rattle.engine.specs.Outcomes.{listed_of};
@@ -21,7 +20,7 @@ pub struct Ran {
 
 // Refuses, and leaves nothing in what was lent.
 fn refuse(reason: Refused, work: &mut [u64], ordinates: &mut [u64], records: &mut [u8]) -> Ran
-    ensures records_after { outcome_is result.answer work.new ordinates.new records.new ≡ refused (refusal_number reason.refusal) reason.line (lent_as work.old ordinates.old records.old) }
+    ensures records_after { outcome_is result.answer work.new ordinates.new records.new ≡ refused reason.number reason.line (lent_as work.old ordinates.old records.old) }
     ensures none { (ratios_is result.ratios ≡ []) × (result.ratios.count ≤ 9) }
 {
     Ran {
@@ -43,10 +42,10 @@ pub fn run_listed(
     ensures listed { (ratios_is result.ratios ≡ listed_of deck.now (length work.old)) × (result.ratios.count ≤ 9) }
 {
     if let Err(refusal) = answers::size_refusal(work.len(), deck.len()) {
-        return refuse(Refused { refusal, line: 0 }, work, ordinates, records);
+        return refuse(refusal.at_line(0), work, ordinates, records);
     }
-    ordinates.fill(0);
-    records.fill(0);
+    slices::zero_words(ordinates);
+    slices::fill_bytes(records, 0);
     let wanted = Wanted {
         block: named,
         ratio,

@@ -53,6 +53,7 @@ pub fn find_block(deck: &[u8], number: usize, cards: &mut [u64]) -> Option<Found
     let got = reading::read_on(deck, at, line, r, cards);
     match got.event {
         Event::Opened(_) | Event::Ended => open_in(got.reading),
-        Event::Refused(_) | Event::Missing => None,
+        Event::Refused(_) => None,
+        Event::Missing => None,
     }
 }

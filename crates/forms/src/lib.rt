@@ -81,7 +81,9 @@ fn copy_old(to: &mut [u8], from: &[u8])
     requires { (old_record_size ≤ length to.old) × (old_record_size ≤ length from.now) }
     ensures { to.new ≡ take old_record_size from.now ++ drop old_record_size to.old }
 {
-    to[..OLD].copy_from_slice(&from[..OLD]);
+    if let (Some(front), Some(old)) = (to.first_chunk_mut::<OLD>(), from.first_chunk::<OLD>()) {
+        *front = *old;
+    }
 }
 
 // An old record in the new form: ratio 100, place 1 and zeros behind it.

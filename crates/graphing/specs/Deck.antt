@@ -14,7 +14,6 @@ use Rattle.meaning.specs.Run.{BeforeTime, Done, named_ratio, named_flow, Outcome
 use Rattle.meaning.specs.Listing.{refused_line}
 use Rattle.meaning.specs.Hydrograph.{hydrograph_text, hydrograph_in, hydrograph}
 use Rattle.refusals.specs.declared.Refused as refusals
-use Rattle.refusals.specs.Numbers.{refusal_number}
 use Rattle.answers.specs.Answers as engine
 use Rattle.answers.specs.Answers.{accepted_as, answer_is, outcome_is}
 use Rattle.network.specs.Answers.{passed_accepted}
@@ -75,8 +74,8 @@ module _ (deck : List ℕ) (named ratio : ℕ) (a : engine.Answer) {work ordinat
           → minutes ≡ minutes_at (block_at (lines_of deck) (BeforeTime Fixed) 1) → n ≡ nq → length ordinates ≡ most_ordinates → Written out 0 (hydrograph deck named ratio) next behind
       hydrograph-accepted text minutes-are as_many long = rw (minutes-are, as_many, accepted-text long) at text
 
-    pub hydrograph-refused : {why : refusals.Refused} {n l behind : ℕ} {out next : List ℕ} → a ≡ Err why → Written out 0 (refused_line n l) next behind → n ≡ refusal_number why.refusal → l ≡ why.line
+    pub hydrograph-refused : {why : refusals.Refused} {n l behind : ℕ} {out next : List ℕ} → a ≡ Err why → Written out 0 (refused_line n l) next behind → n ≡ why.number → l ≡ why.line
         → Written out 0 (hydrograph deck named ratio) next behind
     unfolding hydrograph
     hydrograph-refused {why} told text same_number same_line =
-        rw (same_number, same_line, ← refused-shown (hydrograph_in named) deck named ratio (refusal_number why.refusal) why.line (sym answered ∙ ap answer_is told)) at text
+        rw (same_number, same_line, ← refused-shown (hydrograph_in named) deck named ratio why.number why.line (sym answered ∙ ap answer_is told)) at text

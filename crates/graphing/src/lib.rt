@@ -72,6 +72,6 @@ pub fn hydrograph_deck(deck: &[u8], named: usize, ratio: usize, out: &mut [u8]) 
             let minutes = minutes_of(deck);
             write_hydrograph(out, minutes, &ordinates[..accepted.ordinates])
         }
-        Err(refused) => printing::write_refusal(out, refused.refusal.number(), refused.line),
+        Err(refused) => printing::write_refusal(out, refused.number, refused.line),
     }
 }

@@ -7,7 +7,7 @@ fn main(rt: HostRuntime) {
     let mut deck = [0u8; streams::DECK];
     let got = streams::read_all(&rt, &mut deck);
     if got.failed {
-        streams::explain(&rt, Stop::Failed);
+        streams::explain(&rt, Err(Stop::Failed));
         return;
     }
     let mut out = [0u8; listing::LISTING];

@@ -1,7 +1,6 @@
 -- Of two rounds what is met first, as the code tells it.
 use Rattle.std.specs.Prelude.{ℕ, Bool, true, false, Result, Ok, Err}
 use Rattle.refusals.specs.declared.Refused.{Refused}
-use Rattle.refusals.specs.Numbers.{refusal_number}
 use Rattle.passes.specs.Apart.{comes_first}
 use Rattle.turns.specs.declared.Worked.{Worked}
 
@@ -11,7 +10,7 @@ sooner_by true r s = Err r
 sooner_by false r s = Err s
 
 abbrev pub first_of : (r s : Refused) → Bool
-first_of r s = comes_first (refusal_number r.refusal) r.line (refusal_number s.refusal) s.line
+first_of r s = comes_first r.number r.line s.number s.line
 
 -- of the round found, and the next one
 abbrev pub sooner_of : (w v : Result Worked Refused) → Result Worked Refused

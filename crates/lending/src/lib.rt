@@ -4,7 +4,6 @@
 ghost use Rattle.std.specs.Prelude.{◌≡◌, ◌-◌, ◌≤◌, ◌++◌, length, take, replicate, is_err};
 ghost use Rattle.meaning.specs.Blocks.{or_whole};
 ghost use Rattle.meaning.specs.Run.{most_blocks};
-ghost use Rattle.refusals.specs.Numbers.{refusal_number};
 ghost use Rattle.blocks.specs.Meant.{ratios_is};
 ghost use Rattle.passes.specs.Apart.{rank_of, comes_first};
 ghost use Rattle.lending.specs.Lent.{ordinates_from, records_from};
@@ -42,25 +41,26 @@ pub fn clear_from(ordinates: &mut [u64], from: usize)
     requires { from ≤ length ordinates.old }
     ensures { ordinates.new ≡ take from ordinates.old ++ replicate (length ordinates.old - from) 0 }
 {
-    ordinates[from..].fill(0);
+    slices::zero_words(&mut ordinates[from..]);
 }
 
-// The rank of a refusal on its line: its number, but 20, which flows decide, has the place of 13.
-fn rank_of(refusal: Refusal) -> u64
-    ensures { result ≡ rank_of (refusal_number refusal) }
+// The rank of a number on its line: the number itself, but 20, which flows decide, has the place of 13.
+fn rank_of(number: u64) -> u64
+    ensures { result ≡ rank_of number }
 {
-    match refusal {
-        Refusal::Overtopped => 13,
-        other => other.number(),
+    if number == Refusal::Overtopped.number() {
+        13
+    } else {
+        number
     }
 }
 
 // Whether of two refusals the first one is met first: on an earlier line, or on the same line by a rank that is not above. Line 0 is that of a missing ZZ, and comes last.
 fn comes_first(a: Refused, b: Refused) -> bool
-    ensures { result ≡ comes_first (refusal_number a.refusal) a.line (refusal_number b.refusal) b.line }
+    ensures { result ≡ comes_first a.number a.line b.number b.line }
 {
     if a.line == b.line {
-        rank_of(a.refusal) <= rank_of(b.refusal)
+        rank_of(a.number) <= rank_of(b.number)
     } else {
         a.line != 0 && (b.line == 0 || a.line < b.line)
     }

@@ -34,7 +34,7 @@ module _ (s : List ℕ) (end : ℕ) where
   rest_cr-lf = rw rest_is (begins_cr-lf (drop end s) ∙ rw (get_or-drop end s 0 0, get_or-drop end s 1 0, add-zero end) refl)
 
 module _ (s : List ℕ) (at end : ℕ) where
-  pub too_long : 80 < end - at → unfair_line ≡ line_from s at end
+  pub too_long : 80 < end - at → unfair_line end ≡ line_from s at end
   unfolding line_from
   too_long h = taken _ (lt-ltb _ _ h) refl
 
@@ -54,16 +54,16 @@ module _ (s : List ℕ) (at end : ℕ) where
         at_cr-lf h k =
             passed _ (le-ltb _ _ short) (passed _ (lt-leb _ _ more) (passed _ (ne_eqb _ _ no-lf) (taken _ (rw (h, k)) refl)))
 
-        pub at_foreign : ((get_or s end 0 =? cr) && (get_or s (end + 1) 0 =? lf)) ≡ false → unfair_line ≡ line_from s at end
+        pub at_foreign : ((get_or s end 0 =? cr) && (get_or s (end + 1) 0 =? lf)) ≡ false → unfair_line end ≡ line_from s at end
         unfolding line_from line_ending
         at_foreign h =
             passed _ (le-ltb _ _ short) (passed _ (lt-leb _ _ more) (passed _ (ne_eqb _ _ no-lf) (passed _ h refl)))
 
-        pub at_other : (get_or s end 0 ≡ cr → ⊥) → unfair_line ≡ line_from s at end
+        pub at_other : (get_or s end 0 ≡ cr → ⊥) → unfair_line end ≡ line_from s at end
         at_other h = at_foreign (rw (ne_eqb (get_or s end 0) cr h))
 
-        pub at_cr : (get_or s (end + 1) 0 ≡ lf → ⊥) → unfair_line ≡ line_from s at end
+        pub at_cr : (get_or s (end + 1) 0 ≡ lf → ⊥) → unfair_line end ≡ line_from s at end
         at_cr h = at_foreign (rw (ne_eqb (get_or s (end + 1) 0) lf h) (and-false (get_or s end 0 =? cr)))
 
-        pub at_last_cr : length s ≤ end + 1 → unfair_line ≡ line_from s at end
+        pub at_last_cr : length s ≤ end + 1 → unfair_line end ≡ line_from s at end
         at_last_cr h = at_foreign (rw (get_or-eq_default s 0 h) (and-false (get_or s end 0 =? cr)))

@@ -1,6 +1,6 @@
 -- The line at a place is the first of the deck's lines from there on: what the loop over a deck's lines goes by.
 --     fair-line      a fair one passes refusal 3, and the lines go on at `next`
---     unfair-line    any other meets it; unfair_by_three: and by that it is refused
+--     unfair-line    any other meets it; unfair_end: and where its plain bytes stop is told
 use Prim.Native.Nat.{ℕ, suc, ◌+◌, ◌-◌, ◌≤◌, ◌<◌}
 use Rattle.std.specs.Prelude.{◌≡◌, Bool, ◌&&◌, List, [], ◌∷◌, ◌++◌, take, drop, Result, Ok, Err}
 use Rattle.std.proofs.Math.Path.{refl, ap}
@@ -16,9 +16,8 @@ use Rattle.meaning.specs.Lines.{lf, cr, in_front, lines_of, foreign}
 use Rattle.sequences.specs.Choices.{below_or_not, both_hold}
 use Rattle.sequences.specs.Parts.{part}
 use Rattle.sequences.specs.Runs.{run, run_within, run_at_within, run_at_stops, every-run, not_every}
-use Rattle.refusals.specs.declared.Refusal.{Refusal}
-use Rattle.refusals.specs.declared.Refusal.TheVariants.{ForeignLine}
 use Rattle.lines.specs.declared.Line.{Line}
+use Rattle.lines.specs.declared.Foreign.{Foreign}
 use Rattle.lines.specs.Line.{is_plain, fair_line, unfair_line, line_ending, line_from, line_at}
 use Rattle.lines.specs.Plain.{plain-every, front, front-line, front_none, lines-run}
 
@@ -158,9 +157,9 @@ module _ (s : List ℕ) (at : ℕ) (inside : at < length s) where
             rw (lt-ltb 80 (length (plains ++ b.more)) l);
       }
 
-  abbrev Told : Result Line Refusal → Type 0
+  abbrev Told : Result Line Foreign → Type 0
   Told (Ok line) = FairAt s at line.end line.next
-  Told (Err refusal) = (refusal ≡ ForeignLine) × ForeignAt s at
+  Told (Err foreign) = (foreign.end ≡ end) × ForeignAt s at
 
   told : Told (line_at s at)
   unfolding line_from line_ending when◌then◌else◌
@@ -168,7 +167,7 @@ module _ (s : List ℕ) (at : ℕ) (inside : at < length s) where
     where
       go : (a : Bool) → (80 <? (end - at)) ≡ a → (b : Bool) → (length s ≤? end) ≡ b → (c : Bool) → (get_or s end 0 =? lf) ≡ c
           → (d : Bool) → ((get_or s end 0 =? cr) && (get_or s (end + 1) 0 =? lf)) ≡ d
-          → Told (when a then unfair_line else when b then fair_line end end else when c then fair_line end (end + 1) else when d then fair_line end (end + 2) else unfair_line)
+          → Told (when a then unfair_line end else when b then fair_line end end else when c then fair_line end (end + 1) else when d then fair_line end (end + 2) else unfair_line end)
       go true p b q c r d t = (refl, foreign_long (ltb-true _ _ p))
       go false p true q c r d t = fair_end (ltb-false _ _ p) (leb-true _ _ q)
       go false p false q true r d t = fair_lf (ltb-false _ _ p) (leb-false _ _ q) (eqb-true _ _ r)
@@ -177,16 +176,16 @@ module _ (s : List ℕ) (at : ℕ) (inside : at < length s) where
           fair_cr-lf (ltb-false _ _ p) (leb-false _ _ q) (eqb-true _ _ both.0) (eqb-true _ _ both.1)
       go false p false q false r false t = (refl, foreign_byte (leb-false _ _ q) r t)
 
-module _ (s : List ℕ) (at : ℕ) (r : Result Line Refusal) (inside : at < length s) (found : r ≡ line_at s at) where
+module _ (s : List ℕ) (at : ℕ) (r : Result Line Foreign) (inside : at < length s) (found : r ≡ line_at s at) where
   pub fair-line : (line : Line) → r ≡ Ok line → FairAt s at line.end line.next
   fair-line line h = rw h at (rw (← found) at (told s at inside))
 
-  -- any other, which is refused
-  refused : (refusal : Refusal) → r ≡ Err refusal → (refusal ≡ ForeignLine) × ForeignAt s at
-  refused refusal h = rw h at (rw (← found) at (told s at inside))
+  -- any other, which is foreign
+  refused : (foreign : Foreign) → r ≡ Err foreign → (foreign.end ≡ at + run is_plain (drop at s)) × ForeignAt s at
+  refused foreign h = rw h at (rw (← found) at (told s at inside))
 
-  pub unfair_by_three : (refusal : Refusal) → r ≡ Err refusal → refusal ≡ ForeignLine
-  unfair_by_three refusal h = (refused refusal h).0
+  pub unfair_end : (foreign : Foreign) → r ≡ Err foreign → foreign.end ≡ at + run is_plain (drop at s)
+  unfair_end foreign h = (refused foreign h).0
 
-  pub unfair-line : (refusal : Refusal) → r ≡ Err refusal → ForeignAt s at
-  unfair-line refusal h = (refused refusal h).1
+  pub unfair-line : (foreign : Foreign) → r ≡ Err foreign → ForeignAt s at
+  unfair-line foreign h = (refused foreign h).1

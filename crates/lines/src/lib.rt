@@ -4,6 +4,7 @@
 
 ghost use Rattle.std.specs.Prelude.{◌≡◌, ◌+◌, ◌≤◌, ◌<◌, length, drop};
 ghost use Rattle.sequences.specs.Runs.{run};
+ghost use Rattle.refusals.specs.declared.Refusal.TheVariants.{ForeignLine};
 ghost use Rattle.lines.specs.Line.{is_plain, line_at};
 
 use refusals::Refusal;
@@ -13,6 +14,20 @@ use refusals::Refusal;
 pub struct Line {
     pub end: usize,
     pub next: usize,
+}
+
+// A line that meets refusal 3: its plain bytes stop at `end`.
+#[derive(Clone, Copy)]
+pub struct Foreign {
+    pub end: usize,
+}
+
+impl From<Foreign> for Refusal {
+    ghost from_gives = { λ _ refusal. refusal ≡ ForeignLine };
+
+    fn from(_foreign: Foreign) -> Refusal {
+        Refusal::ForeignLine
+    }
 }
 
 // A printing byte, or a blank.
@@ -34,14 +49,14 @@ fn plain_end(s: &[u8], at: usize) -> usize
         .unwrap_or(rest.len())
 }
 
-// The line that starts at `at`, behind whose plain bytes the deck ends, or LF stands, or CR and LF; else it meets refusal 3.
-pub fn line_at(s: &[u8], at: usize) -> Result<Line, Refusal>
+// The line that starts at `at`, behind whose plain bytes the deck ends, or LF stands, or CR and LF; else it meets refusal 3, and where they stop is told.
+pub fn line_at(s: &[u8], at: usize) -> Result<Line, Foreign>
     requires { at < length s.now }
     ensures { result ≡ line_at s.now at }
 {
     let end = plain_end(s, at);
     if 80 < end - at {
-        return Err(Refusal::ForeignLine);
+        return Err(Foreign { end });
     }
     if end == s.len() {
         return Ok(Line { end, next: end });
@@ -53,5 +68,5 @@ pub fn line_at(s: &[u8], at: usize) -> Result<Line, Refusal>
     if rest.starts_with(b"\r\n") {
         return Ok(Line { end, next: end + 2 });
     }
-    Err(Refusal::ForeignLine)
+    Err(Foreign { end })
 }

@@ -16,7 +16,6 @@ use Rattle.meaning.specs.Listing.{refused_line, listing_by, listing}
 use Rattle.meaning.specs.Records.{most_ordinates}
 use Rattle.sequences.specs.Bounds.{AllUpTo}
 use Rattle.refusals.specs.declared.Refused as refusals
-use Rattle.refusals.specs.Numbers.{refusal_number}
 use Rattle.answers.specs.Answers as engine
 use Rattle.answers.specs.Answers.{accepted_as, outcome_is}
 use Rattle.engine.specs.Outcomes.{listed_in, listed_of, listed_sized}
@@ -122,7 +121,7 @@ module _ (deck : List ℕ) (a : engine.Answer) {work ordinates records : List �
         → Written out 0 (listing deck) next behind
     accepted_prints text same_blocks listed = rw (same_blocks, listed, words, accepted.same) at text
 
-  pub refused_prints : {why : refusals.Refused} {n l behind : ℕ} {out next : List ℕ} → a ≡ Err why → Written out 0 (refused_line n l) next behind → n ≡ refusal_number why.refusal → l ≡ why.line
+  pub refused_prints : {why : refusals.Refused} {n l behind : ℕ} {out next : List ℕ} → a ≡ Err why → Written out 0 (refused_line n l) next behind → n ≡ why.number → l ≡ why.line
       → Written out 0 (listing deck) next behind
   refused_prints {why} told text same_number same_line =
       let p : Prints (listing deck) (listed_of deck work_size) (outcome_is (Err why) work ordinates records) = rw told at prints in

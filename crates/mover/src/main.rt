@@ -18,7 +18,7 @@ fn move_file(file: &[u8], direction: usize, room: &mut [u8]) -> Result<usize, Fa
 fn run_case(rt: &HostRuntime, file: &[u8], direction: usize, room: &mut [u8])
     requires { length room.old ≤ 80_000 }
 {
-    let answer = move_file(file, direction, room);
+    let answer = move_file(file, direction, room).map_err(Fault::number);
     let mut out = [0u8; moves::TEXT];
     let n = moves::write_move(&mut out, answer, room);
     streams::print(rt, &out[..n]);

@@ -2,14 +2,12 @@
 #![tactic(auto)]
 
 ghost use Rattle.std.specs.Prelude.{◌≡◌, ◌≤◌, length};
-ghost use Rattle.moving.specs.Answers.{move_is, outcome_is};
 ghost use Rattle.text.specs.Written.{Written};
 ghost use Rattle.text.specs.Counted.{Counted};
 ghost use Rattle.moves.specs.Case.{move_case_of};
 ghost use Rattle.moves.specs.Sizes.{answer_size, move_size};
+ghost use Rattle.moves.specs.Told.{told_move, told_outcome};
 ghost use Rattle.moves.specs.Text.{move_line, move_text};
-
-use forms::Fault;
 
 // The most that a case may ask for, and the bytes that its text has room in: the answer, 2 for a byte of the room and the end of their line, the last line.
 pub const ROOM: usize = 80_000;
@@ -39,21 +37,21 @@ pub fn read_move(b: &[u8]) -> Case
 }
 
 // The line of the answer.
-fn write_answer(out: &mut [u8], answer: Result<usize, Fault>) -> usize
+fn write_answer(out: &mut [u8], answer: Result<usize, u64>) -> usize
     requires { answer_size ≤ length out.old }
-    ensures text { Written out.old 0 (move_line (move_is answer)) out.new result }
+    ensures text { Written out.old 0 (move_line (told_move answer)) out.new result }
     ensures short { result ≤ answer_size }
 {
     match answer {
         Ok(count) => text::write_told(out, 0, b"MOVED ", count as u64),
-        Err(fault) => text::write_told(out, 0, b"REFUSED ", fault.number()),
+        Err(number) => text::write_told(out, 0, b"REFUSED ", number),
     }
 }
 
-// What is printed of a case.
-pub fn write_move(out: &mut [u8], answer: Result<usize, Fault>, room: &[u8]) -> usize
+// What is printed of a case, whose answer is the bytes moved or the number of a refusal, which may be any.
+pub fn write_move(out: &mut [u8], answer: Result<usize, u64>, room: &[u8]) -> usize
     requires { move_size (length room.now) ≤ length out.old }
-    ensures text { Written out.old 0 (move_text (outcome_is answer room.now)) out.new result }
+    ensures text { Written out.old 0 (move_text (told_outcome answer room.now)) out.new result }
     ensures counted { Counted result out.new }
 {
     let bytes = write_answer(out, answer);

@@ -180,7 +180,7 @@ fn move_records<D: Direction>(file: &[u8], room: &mut [u8]) -> usize
 fn refuse(fault: Fault, room: &mut [u8]) -> Result<usize, Fault>
     ensures { outcome_is result room.new ≡ refused_in (number_of fault) (length room.old) }
 {
-    room.fill(0);
+    slices::fill_bytes(room, 0);
     Err(fault)
 }
 
@@ -189,7 +189,7 @@ fn settle(n: usize, room: &mut [u8]) -> Result<usize, Fault>
     requires { n ≤ length room.old }
     ensures { outcome_is result room.new ≡ moved_in (take n room.old) (length room.old) }
 {
-    room[n..].fill(0);
+    slices::fill_bytes(&mut room[n..], 0);
     Ok(n)
 }
 

@@ -140,7 +140,7 @@ fn own_rule(item: usize, k: usize) -> Rule
             _ => Rule::Unnamed,
         },
         JR => match k {
-            0 => Rule::Worded(Refusal::Malformed, 4, 0x50524543, 0x50524543),
+            0 => Rule::Worded(Refusal::Malformed.number(), 4, 0x50524543, 0x50524543),
             1..=9 => Rule::Limited(2, 0, 999),
             _ => Rule::Unnamed,
         },
@@ -173,7 +173,7 @@ fn own_rule(item: usize, k: usize) -> Rule
         },
         RS => match k {
             0 => Rule::Limited(0, 1, 1),
-            1 => Rule::Worded(Refusal::OutsideLimits, 4, 0x53544F52, 0x53544F52),
+            1 => Rule::Worded(Refusal::OutsideLimits.number(), 4, 0x53544F52, 0x53544F52),
             2 => Rule::Limited(0, 0, 0),
             _ => Rule::Unnamed,
         },

@@ -36,11 +36,21 @@ impl Refusal {
     {
         self as u64 + 1
     }
+
+    // The deck refused for it at a line.
+    pub fn at_line(self, line: u64) -> Refused
+        ensures { (result.number ≡ refusal_number self) × (result.line ≡ line) }
+    {
+        Refused {
+            number: self.number(),
+            line,
+        }
+    }
 }
 
-// A deck refused: what for, and the number of the line, 0 where no line is at fault.
+// A deck refused: the number of what for, and that of the line, 0 where no line is at fault. What is told of a refusal is told of any number.
 #[derive(Clone, Copy, PartialEq, Eq)]
 pub struct Refused {
-    pub refusal: Refusal,
+    pub number: u64,
     pub line: u64,
 }

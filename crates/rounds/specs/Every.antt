@@ -12,7 +12,6 @@ use Rattle.blocks.specs.Meant.{ratios_is}
 use Rattle.passes.specs.Apart.{ratio_count}
 use Rattle.passes.specs.Loop.{Holds, Stands, loop_found}
 use Rattle.refusals.specs.declared.Refused.{Refused}
-use Rattle.refusals.specs.Numbers.{refusal_number}
 use Rattle.turns.specs.declared.Worked.{Worked}
 use Rattle.lending.specs.Sooner.{blocks_in}
 use Rattle.walking.specs.declared.Walked.{Walked}
@@ -30,7 +29,7 @@ pub record EveryDone (deck : List ℕ) (wanted : Wanted) (n m : ℕ) (listed : L
   pub holds : Holds deck wanted.block wanted.ratio n m (length (or_whole listed)) time results ordinates records
 
 abbrev pub EveryBy : List ℕ → Wanted → (n m : ℕ) → (listed : List ℕ) → std.Result Worked Refused → (ordinates records : List ℕ) → Type 0
-EveryBy deck wanted n m listed (Err r) ordinates records = worked deck ≡ Stopped (refusal_number r.refusal) r.line
+EveryBy deck wanted n m listed (Err r) ordinates records = worked deck ≡ Stopped r.number r.line
 EveryBy deck wanted n m listed (Ok w) ordinates records = EveryDone deck wanted n m listed w.nq w.blocks ordinates records
 
 pub record EveryIs (deck : List ℕ) (wanted : Wanted) (n m : ℕ) (w : Walked) (ordinates records : List ℕ) : Type 0 where

@@ -20,7 +20,6 @@ use Rattle.passes.specs.Loop as loop
 use Rattle.passes.specs.Loop.{WalkIs, Holds, HoldsOf, Stands, OrdinatesLent, holds_first, holds-refused, holds_still_refused, lent-zeros, loop_more, loop_found}
 use Rattle.passes.proofs.Loop.{holds_more, loop_first}
 use Rattle.refusals.specs.declared.Refused.{Refused}
-use Rattle.refusals.specs.Numbers.{refusal_number}
 use Rattle.turns.specs.declared.Worked.{Worked}
 use Rattle.lending.specs.Sooner.{sooner_by, sooner_of, first_of, blocks_in}
 use Rattle.walking.specs.declared.Walked.{Walked}
@@ -29,7 +28,7 @@ use Rattle.answers.specs.declared.Wanted.{Wanted}
 use Rattle.lending.specs.Lent.{ordinates_from, records_from, ordinates-here, ordinates_else, records-refused, records_past, records-at, records-left}
 
 abbrev pub Tells : run.Worked → std.Result Worked Refused → Type 0
-Tells (Stopped number line) (Err r) = (refusal_number r.refusal ≡ number) × (r.line ≡ line)
+Tells (Stopped number line) (Err r) = (r.number ≡ number) × (r.line ≡ line)
 Tells (Stopped number line) (Ok w) = ⊥
 Tells (Done τ rss) (Err r) = ⊥
 Tells (Done τ rss) (Ok w) = (w.nq ≡ τ.ordinates) × (w.blocks ≡ block_count rss)
@@ -145,7 +144,7 @@ module _ (deck : List ℕ) (wanted : Wanted) (n m : ℕ) (w : Walked) (ordinates
         few = omega arith;
       },
       λ (τ : Time) (rs : List Result) d.
-          let f : Stopped (refusal_number e.refusal) e.line ≡ Done τ (rs ∷ []) = sym stop ∙ d in
+          let f : Stopped e.number e.line ≡ Done τ (rs ∷ []) = sym stop ∙ d in
           let z : ◌≡◌ {A = ℕ} 0 1 = cc in
           absurd (omega arith),
     )
@@ -210,7 +209,7 @@ module _ (deck : List ℕ) (wanted : Wanted) (n m k : ℕ) (ordinates lent after
       holds_still_refused deck wanted.block wanted.ratio n m (worked_under (Only k) deck) number line (k + 1) after records'
   holds_by (Done τ rss) (Err e) next p h listed d l eo er = absurd p
   holds_by (Done τ rss) (Ok w) (Err s) p h listed d l eo er =
-      rw d (holds-refused deck wanted.block wanted.ratio n m (Done τ rss) (refusal_number s.refusal) s.line (k + 1) after records')
+      rw d (holds-refused deck wanted.block wanted.ratio n m (Done τ rss) s.number s.line (k + 1) after records')
   holds_by (Done τ rss) (Ok w) (Ok v) p h listed d l eo er = both_done τ rss w v h p.1 listed d l eo er
 
   tells_next : (found next : std.Result Worked Refused) (listed : List ℕ) → NextIs found next listed → Tells (worked_under (Only k) deck) next

@@ -9,27 +9,25 @@ use Rattle.meaning.specs.Records.{is_malformed, is_outside, is_other, units_of}
 use Rattle.rules.specs.declared.Rule.{Rule}
 use Rattle.rules.specs.declared.Rule.TheVariants.{Unnamed, NotRead, Limited, Worded}
 use Rattle.rules.specs.declared.Held.{Held}
-use Rattle.refusals.specs.declared.Refusal.{Refusal}
-use Rattle.refusals.specs.Numbers.{refusal_number, named_by, named_back}
 
 abbrev pub rule_by : Rule → records.Rule
 rule_by Unnamed = records.Unnamed
 rule_by NotRead = records.NotRead
 rule_by (Limited places low high) = records.Limited places low high
-rule_by (Worded refusal most low high) = records.Worded (refusal_number refusal) most low high
+rule_by (Worded refusal most low high) = records.Worded refusal most low high
 
 -- and back: a rule of the definitions is one of the code
 abbrev rule_for : records.Rule → Rule
 rule_for records.Unnamed = Unnamed
 rule_for records.NotRead = NotRead
 rule_for (records.Limited places low high) = Limited places low high
-rule_for (records.Worded refusal most low high) = Worded (named_by refusal) most low high
+rule_for (records.Worded refusal most low high) = Worded refusal most low high
 
 rule_back : (r : Rule) → r ≡ rule_for (rule_by r)
 rule_back Unnamed = refl
 rule_back NotRead = refl
 rule_back (Limited places low high) = refl
-rule_back (Worded refusal most low high) = ap (λ (named : Refusal). Worded named most low high) (sym (named_back refusal))
+rule_back (Worded refusal most low high) = refl
 
 pub one_rule : (x y : Rule) → rule_by x ≡ rule_by y → x ≡ y
 one_rule x y e = rule_back x ∙ ap rule_for e ∙ sym (rule_back y)

@@ -6,7 +6,6 @@ mod words;
 ghost use Rattle.std.specs.Prelude.{◌≡◌, not};
 ghost use Rattle.meaning.specs.Words.{◌=?◌};
 ghost use Rattle.meaning.specs.Records.{is_malformed, is_outside, units_of, faulty_field, outside_field, value_of};
-ghost use Rattle.refusals.specs.Numbers.{refusal_number};
 ghost use Rattle.amounts.specs.Values.{value_is};
 ghost use Rattle.rules.specs.Rules.{rule_by, FieldIs, WordIs, FewPlaces};
 
@@ -14,13 +13,13 @@ use amounts::Fault;
 use refusals::Refusal;
 
 // What a field may hold: nothing; anything, since it is not read; a number with so many places, from a lowest to a highest value; or a word of so many characters,
-// likewise, behind the refusal of another one.
+// likewise, behind the number by which another one is refused.
 #[derive(Clone, Copy)]
 pub enum Rule {
     Unnamed,
     NotRead,
     Limited(u64, u64, u64),
-    Worded(Refusal, u64, u64, u64),
+    Worded(u64, u64, u64, u64),
 }
 
 // The value that a field holds, and whether it is outside its limits (refusal 7).
@@ -54,10 +53,10 @@ fn limit_value(v: Result<u64, Fault>, low: u64, high: u64) -> Option<Held>
 }
 
 // Another word than may stand in a field, refused by 6, or else by 7.
-fn other_word(refusal: Refusal) -> Option<Held>
-    ensures { FieldIs result (refusal_number refusal =? 6) (not (refusal_number refusal =? 6)) 0 }
+fn other_word(refusal: u64) -> Option<Held>
+    ensures { FieldIs result (refusal =? 6) (not (refusal =? 6)) 0 }
 {
-    if refusal == Refusal::Malformed {
+    if refusal == Refusal::Malformed.number() {
         return None;
     }
     Some(Held {
@@ -67,8 +66,8 @@ fn other_word(refusal: Refusal) -> Option<Held>
 }
 
 // A word, by the limits of its field.
-fn limit_word(v: Result<u64, Fault>, refusal: Refusal, low: u64, high: u64) -> Option<Held>
-    ensures { WordIs result (refusal_number refusal) low high (value_is v) }
+fn limit_word(v: Result<u64, Fault>, refusal: u64, low: u64, high: u64) -> Option<Held>
+    ensures { WordIs result refusal low high (value_is v) }
 {
     match limit_value(v, low, high) {
         Some(held) if !held.outside => Some(held),

@@ -2,11 +2,12 @@
 use mathlib.Core.Path.{◌≡◌, sym, ◌∙◌}
 use mathlib.Core.List.{[]}
 use Rattle.sequences.specs.OneOutcome.{Once}
-use Rattle.std.specs.Prelude.{ℕ, Some}
-use Rattle.meaning.specs.Blocks as blocks
-use Rattle.refusals.specs.Numbers.{same_result}
+use Rattle.std.specs.Prelude.{Some, Result, Ok, Err}
+use Rattle.refusals.specs.Numbers.{same_number, some_number}
 use Rattle.kinds.specs.Kinds.{kind_meant, kind_told}
 use Rattle.shaping.specs.declared.Shape.{Shape}
+use Rattle.shaping.specs.declared.Unfit.{Unfit}
+use Rattle.shaping.specs.Shapes.{number_in, kind_in, after_in}
 use Rattle.shaping.proofs.number_of.Kinds as number_of_lem
 use Rattle.shaping.proofs.number_of.Reads as number-of-says
 use Rattle.shaping.proofs.reach_of.Kinds as reach_of
@@ -25,7 +26,13 @@ one_reach_of κs a x y e f p q =
 
 pub one_shape_of : Once shape_of.ps shape_of.r shape-of-says.Post (λ κs x y e f. x ≡ y)
 one_shape_of κs a x y e f p q =
-    same_result x y ((p []).number ∙ sym (q []).number) (λ s t xs yt. same s t (rw xs at (p []).kind) (rw yt at (q []).kind) (rw xs at (p []).after) (rw yt at (q []).after))
+    let number = (p []).number ∙ sym (q []).number in
+    let kind = (p []).kind ∙ sym (q []).kind in
+    let after = (rw number at (p []).after) ∙ sym (q []).after in
+    same x y number kind after
   where
-    same : (s t : Shape) {k : blocks.Kind} {n : ℕ} → kind_meant (Some s.kind) ≡ k → kind_meant (Some t.kind) ≡ k → s.after ≡ n → t.after ≡ n → s ≡ t
-    same s t j k m n = let told = kind_told (Some s.kind) (Some t.kind) (j ∙ sym k) in let kind : s.kind ≡ t.kind = cc in let after : s.after ≡ t.after = m ∙ sym n in rw (kind, after)
+    same : (x y : Result Shape Unfit) → number_in x ≡ number_in y → kind_meant (kind_in x) ≡ kind_meant (kind_in y) → after_in x ≡ after_in y → x ≡ y
+    same (Ok s) (Ok t) number kind after = let told = kind_told (Some s.kind) (Some t.kind) kind in let one : s.kind ≡ t.kind = cc in rw (one, after)
+    same (Ok s) (Err v) number kind after = absurd (some_number v.refusal (sym number))
+    same (Err u) (Ok t) number kind after = absurd (some_number u.refusal number)
+    same (Err u) (Err v) number kind after = rw (same_number u.refusal v.refusal number, kind_told u.kind v.kind kind, after)

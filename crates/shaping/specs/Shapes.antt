@@ -1,8 +1,9 @@
 -- Refusals 9, 18, 10, 11 and 12 or 19 of a block that closes.
 --     refusal_by       by the tests and the numbers that they look at
---     ShapeIs         the shape of a block, with shape_kindless, shape_patternless, shape_without_room, shape_broken and shape_sound: how it comes about
+--     ShapeIs         the shape of a block, with shape_refused, shape_kindless, shape_patternless, shape_without_room, shape_broken and shape_sound: how it comes about
+--     shape_told       what is told of a block by what its refusals come to: of one that is refused its kind too, and that as many are held as before
 --     Shaped          a block of a kind that none of them refuses, with what that says of how many are held, of a reach and of a pond
-use Rattle.std.specs.Prelude.{ℕ, zero, suc, ◌+◌, ◌-◌, ◌≤◌, ◌<◌, ◌≡◌, refl, Bool, false, length, Some, None, Result, Ok, Err, IfOk}
+use Rattle.std.specs.Prelude.{ℕ, zero, suc, ◌+◌, ◌-◌, ◌≤◌, ◌<◌, ◌≡◌, refl, Bool, false, length, Option, Some, None, Result, Ok, Err}
 use Rattle.std.proofs.Common.{sym, ap, ◌∙◌, arith, ltb-false, leb-false}
 use Rattle.sequences.specs.Refusals.{neither_met, not_met}
 use Rattle.meaning.specs.Words.{◌=?◌, ◌≤?◌, ◌<?◌, when◌then◌else◌, met, first}
@@ -16,13 +17,14 @@ use Rattle.limits.specs.Within.{TimeWithin}
 use Rattle.kinds.specs.Kinds.{kind_meant, kind_must}
 use Rattle.refusals.specs.declared.Refusal.{Refusal}
 use Rattle.refusals.specs.declared.Refusal.TheVariants as refusal
-use Rattle.refusals.specs.Numbers.{refusal_number, refusal_in, some_number}
+use Rattle.refusals.specs.Numbers.{refusal_number, some_number}
 use Rattle.kinds.specs.declared.Kind.{Kind}
 use Rattle.kinds.specs.declared.Kind.TheVariants as kinds
 use Rattle.routing.specs.Soundness as routing
 use Rattle.pond.specs.Tables.{PondTable}
 use Rattle.shaping.specs.Limits.{CardsWithin, reach_small}
 use Rattle.shaping.specs.declared.Shape.{Shape}
+use Rattle.shaping.specs.declared.Unfit.{Unfit}
 
 abbrev pub refusal_by : (is_kindless is_patternless : Bool) (taken held breach : ℕ) → ℕ
 refusal_by is_kindless is_patternless taken held breach =
@@ -42,15 +44,45 @@ shape_by : (τ : Time) (b : Block) (held : ℕ) {k : blocks.Kind} → kind_of b 
 unfolding shape_refusal
 shape_by τ b held e = rw (takes-by b e, broken-by τ b e, e)
 
--- THE SHAPE
-pub record ShapeIs (τ : Time) (b : Block) (held : ℕ) (r : Result Shape Refusal) : Type 0 where
-  pub number : refusal_in r ≡ shape_refusal τ b held
-  pub kind : IfOk r (λ s. kind_meant (Some s.kind) ≡ kind_of b)
-  pub after : IfOk r (λ s. s.after ≡ depth_after b held)
+-- what is told of a block: the number of its refusal, 0 for none; its kind; and how many are held then
+abbrev pub number_in : Result Shape Unfit → ℕ
+number_in (Ok s) = 0
+number_in (Err u) = refusal_number u.refusal
+
+abbrev pub kind_in : Result Shape Unfit → Option Kind
+kind_in (Ok s) = Some s.kind
+kind_in (Err u) = u.kind
+
+abbrev pub after_in : Result Shape Unfit → ℕ
+after_in (Ok s) = s.after
+after_in (Err u) = u.after
+
+abbrev pub shape_told : Option Kind → ℕ → Result Shape Refusal → Result Shape Unfit
+shape_told kind held (Ok s) = Ok s
+shape_told kind held (Err x) = Err (record { refusal = x; kind = kind; after = held })
+
+-- THE SHAPE. A refusal leaves as many held as there were.
+abbrev pub after_shape : (refusal : ℕ) → Block → ℕ → ℕ
+after_shape zero b held = depth_after b held
+after_shape (suc n) b held = held
+
+pub record ShapeIs (τ : Time) (b : Block) (held : ℕ) (r : Result Shape Unfit) : Type 0 where
+  pub number : number_in r ≡ shape_refusal τ b held
+  pub kind : kind_meant (kind_in r) ≡ kind_of b
+  pub after : after_in r ≡ after_shape (number_in r) b held
+
+kept-after : (n : ℕ) (b : Block) (held : ℕ) → (n ≡ 0 → ⊥) → held ≡ after_shape n b held
+kept-after zero b held some = absurd (some refl)
+kept-after (suc n) b held some = refl
+
+-- a block that is refused, of a kind or of none
+pub shape_refused : (τ : Time) (b : Block) (held : ℕ) (kind : Option Kind) → kind_meant kind ≡ kind_of b → (x : Refusal) → refusal_number x ≡ shape_refusal τ b held
+    → ShapeIs τ b held (Err (record { refusal = x; kind = kind; after = held }))
+shape_refused τ b held kind e x h = record { number = h; kind = e; after = kept-after (refusal_number x) b held (some_number x) }
 
 -- a block without a kind
-pub shape_kindless : (τ : Time) (b : Block) (held : ℕ) → kind_meant None ≡ kind_of b → ShapeIs τ b held (Err refusal.NoKind)
-shape_kindless τ b held e = record { number = sym (shape_by τ b held (sym e)); kind = tt; after = tt }
+pub shape_kindless : (τ : Time) (b : Block) (held : ℕ) → kind_meant None ≡ kind_of b → ShapeIs τ b held (Err (record { refusal = refusal.NoKind; kind = None; after = held }))
+shape_kindless τ b held e = shape_refused τ b held None e refusal.NoKind (sym (shape_by τ b held (sym e)))
 
 some_kind : (kind : Kind) → (kind_number (kind_meant (Some kind)) =? 0) ≡ false
 some_kind kinds.Basin = refl
@@ -83,23 +115,27 @@ module _ (τ : Time) (b : Block) (held : ℕ) (kind : Kind) (e : kind_meant (Som
       shape_by τ b held (sym e)
       ∙ rw (some_kind kind) (ap (first (met (patternless τ b) 18)) (first_of_three (met (held <? taken) 10) (met (20 ≤? (held - taken)) 11) broken_parts))
 
-  pub shape_patternless : (x : Refusal) → refusal_number x ≡ met (patternless τ b) 18 → ShapeIs τ b held (Err x)
+  -- refused, and told as one of the kind
+  abbrev Refused : Refusal → Type 0
+  Refused x = ShapeIs τ b held (Err (record { refusal = x; kind = Some kind; after = held }))
+
+  pub shape_patternless : (x : Refusal) → refusal_number x ≡ met (patternless τ b) 18 → Refused x
   shape_patternless x h =
-      record { number = h ∙ first_kept _ (first no_room broken_parts) (λ z. some_number x (h ∙ z)) ∙ sym chain; kind = tt; after = tt }
+      shape_refused τ b held (Some kind) e x (h ∙ first_kept _ (first no_room broken_parts) (λ z. some_number x (h ∙ z)) ∙ sym chain)
 
   module _ (pattern : 0 ≡ met (patternless τ b) 18) where
     behind : shape_refusal τ b held ≡ first no_room broken_parts
     behind = chain ∙ ap (λ (n : ℕ). first n (first no_room broken_parts)) (sym pattern)
 
-    pub shape_without_room : (x : Refusal) → refusal_number x ≡ no_room → ShapeIs τ b held (Err x)
-    shape_without_room x h = record { number = h ∙ first_kept no_room broken_parts (λ z. some_number x (h ∙ z)) ∙ sym behind; kind = tt; after = tt }
+    pub shape_without_room : (x : Refusal) → refusal_number x ≡ no_room → Refused x
+    shape_without_room x h = shape_refused τ b held (Some kind) e x (h ∙ first_kept no_room broken_parts (λ z. some_number x (h ∙ z)) ∙ sym behind)
 
     module _ (room : 0 ≡ no_room) where
       whole : shape_refusal τ b held ≡ broken_parts
       whole = behind ∙ ap (λ (n : ℕ). first n broken_parts) (sym room)
 
-      pub shape_broken : (x : Refusal) → refusal_number x ≡ broken_parts → ShapeIs τ b held (Err x)
-      shape_broken x h = record { number = h ∙ sym whole; kind = tt; after = tt }
+      pub shape_broken : (x : Refusal) → refusal_number x ≡ broken_parts → Refused x
+      shape_broken x h = shape_refused τ b held (Some kind) e x (h ∙ sym whole)
 
       pub shape_sound : (after : ℕ) → after ≡ held - taken + 1 → 0 ≡ broken_parts → ShapeIs τ b held (Ok (record { kind = kind; after = after }))
       shape_sound after a h = record { number = h ∙ sym whole; kind = e; after = a ∙ ap (λ (n : ℕ). held - n + 1) (sym (takes-by b (sym e))) }

@@ -4,13 +4,13 @@
 
 ghost use Rattle.std.specs.Prelude.{◌≡◌, ◌+◌, ◌-◌, List, ℕ, Some, IfOk};
 ghost use Rattle.meaning.specs.Words.{◌<?◌, ◌≤?◌, met, first};
-ghost use Rattle.meaning.specs.Blocks.{Reach, Pond, kind_number, takes_by, patternless, broken_by, reach_steps, reach_k, reach_x};
+ghost use Rattle.meaning.specs.Blocks.{Reach, Pond, kind_number, kind_of, takes_by, patternless, broken_by, reach_steps, reach_k, reach_x};
 ghost use Rattle.refusals.specs.Numbers.{refusal_number, refusal_in};
 ghost use Rattle.blocks.specs.Meant.{time_is};
 ghost use Rattle.blocks.specs.Cards.{block_of, Readable};
 ghost use Rattle.kinds.specs.Kinds.{kind_meant};
 ghost use Rattle.shaping.specs.Limits.{Read};
-ghost use Rattle.shaping.specs.Shapes.{ShapeIs};
+ghost use Rattle.shaping.specs.Shapes.{shape_told, ShapeIs};
 
 use blocks::Time;
 use kinds::Kind;
@@ -23,6 +23,22 @@ const MOST_HELD: usize = 20;
 pub struct Shape {
     pub kind: Kind,
     pub after: usize,
+}
+
+// What a block is that one of them refuses: by which, its kind if it has one, and how many are held then, as many as before.
+#[derive(Clone, Copy)]
+pub struct Unfit {
+    pub refusal: Refusal,
+    pub kind: Option<Kind>,
+    pub after: usize,
+}
+
+impl From<Unfit> for Refusal {
+    ghost from_gives = { λ unfit refusal. refusal ≡ unfit.refusal };
+
+    fn from(unfit: Unfit) -> Refusal {
+        unfit.refusal
+    }
 }
 
 // The number of a kind, 0 where there is none.
@@ -132,15 +148,28 @@ fn hold_after(taken: usize, held: usize) -> Result<usize, Refusal>
     Ok(left + 1)
 }
 
-// The shape of the open block where so many are held. The refusals come in their order: no kind (9), a total without a pattern (18), too few held (10),
-// no room for one more (11), values that do not go together (12 or 19).
-pub fn shape_of(time: Time, cards: &[u64], held: usize) -> Result<Shape, Refusal>
+// The shape of the open block, if it has a kind, where so many are held. The refusals come in their order: no kind (9), a total without a pattern (18),
+// too few held (10), no room for one more (11), values that do not go together (12 or 19).
+fn fit_block(kind: Option<Kind>, time: Time, cards: &[u64], held: usize) -> Result<Shape, Refusal>
     requires { Read (time_is time) cards.now }
-    ensures { (name : List ℕ) → ShapeIs (time_is time) (block_of name cards.now) held result }
+    ensures { (name : List ℕ) → kind_meant kind ≡ kind_of (block_of name cards.now) → ShapeIs (time_is time) (block_of name cards.now) held (shape_told kind held result) }
 {
-    let kind = kinds::kind_of(cards).ok_or(Refusal::NoKind)?;
+    let kind = kind.ok_or(Refusal::NoKind)?;
     refuse_if(is_patternless(time, cards), Refusal::NoPattern)?;
     let after = hold_after(taken_by(kind, cards), held)?;
     refuse_broken(kind, time, cards)?;
     Ok(Shape { kind, after })
+}
+
+// The shape of the open block where so many are held. Of one that is refused its kind is told too, and that as many are held as before.
+pub fn shape_of(time: Time, cards: &[u64], held: usize) -> Result<Shape, Unfit>
+    requires { Read (time_is time) cards.now }
+    ensures { (name : List ℕ) → ShapeIs (time_is time) (block_of name cards.now) held result }
+{
+    let kind = kinds::kind_of(cards);
+    fit_block(kind, time, cards, held).map_err(|refusal| Unfit {
+        refusal,
+        kind,
+        after: held,
+    })
 }

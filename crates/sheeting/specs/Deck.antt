@@ -12,7 +12,6 @@ use Rattle.meaning.specs.Run.{BeforeTime, named_ratio, block_count, Accepted, ou
 use Rattle.meaning.specs.Listing.{refused_line}
 use Rattle.meaning.specs.Sheet.{sheet_in, sheet}
 use Rattle.refusals.specs.declared.Refused as refusals
-use Rattle.refusals.specs.Numbers.{refusal_number}
 use Rattle.answers.specs.Answers as engine
 use Rattle.answers.specs.Answers.{accepted_as, answer_is, outcome_is}
 use Rattle.network.specs.WorkedBlocks.{as_many_under}
@@ -47,7 +46,7 @@ module _ (deck : List ℕ) (named ratio : ℕ) (a : engine.Answer) {work ordinat
   sheet-accepted {nq} {blocks} {ratios} told block rate own theirs =
       rw (own, theirs) (sym (accepted-sheet deck named ratio nq blocks ratios (sym (said deck named ratio a e words flows bytes) ∙ ap answer_is told)))
 
-  pub sheet-refused : {why : refusals.Refused} → a ≡ Err why → refused_line (refusal_number why.refusal) why.line ≡ sheet deck named ratio
+  pub sheet-refused : {why : refusals.Refused} → a ≡ Err why → refused_line why.number why.line ≡ sheet deck named ratio
   unfolding sheet
   sheet-refused {why} told =
-      sym (refused-shown (sheet_in named) deck named ratio (refusal_number why.refusal) why.line (sym (said deck named ratio a e words flows bytes) ∙ ap answer_is told))
+      sym (refused-shown (sheet_in named) deck named ratio why.number why.line (sym (said deck named ratio a e words flows bytes) ∙ ap answer_is told))

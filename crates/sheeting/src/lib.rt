@@ -142,6 +142,6 @@ pub fn sheet_deck(deck: &[u8], named: usize, ratio: usize, out: &mut [u8]) -> us
             let rate = number_of(ratio, accepted.ratios);
             sheet_block(deck, block, rate, out)
         }
-        Err(refused) => printing::write_refusal(out, refused.refusal.number(), refused.line),
+        Err(refused) => printing::write_refusal(out, refused.number, refused.line),
     }
 }

@@ -29,7 +29,7 @@ fn zeros() -> [u8; HELD] {
 
 fn tell_refusal(rt: &HostRuntime, refused: Refused) {
     let mut out = [0u8; printing::REFUSAL];
-    let n = printing::write_refusal(&mut out, refused.refusal.number(), refused.line);
+    let n = printing::write_refusal(&mut out, refused.number, refused.line);
     streams::say(rt, &out[..n]);
 }
 
@@ -85,7 +85,7 @@ fn keep(rt: &HostRuntime, asked: usize) {
     let mut file = zeros();
     let got = streams::read_all(rt, &mut file);
     if got.failed {
-        streams::explain(rt, Stop::Failed);
+        streams::explain(rt, Err(Stop::Failed));
         return;
     }
     let n = got.count;
@@ -99,7 +99,7 @@ fn keep(rt: &HostRuntime, asked: usize) {
 // A number that asks for nothing is an input cut short.
 fn answer(rt: &HostRuntime, asked: usize) {
     if 2 < asked {
-        streams::explain(rt, Stop::Cut);
+        streams::explain(rt, Err(Stop::Cut));
     } else {
         keep(rt, asked);
     }
@@ -109,7 +109,7 @@ fn answer(rt: &HostRuntime, asked: usize) {
 fn main(rt: HostRuntime) {
     match streams::read_number(&rt) {
         Ok(asked) => answer(&rt, asked),
-        Err(Stop::Failed) => streams::explain(&rt, Stop::Failed),
-        Err(_) => streams::explain(&rt, Stop::Cut),
+        Err(Stop::Failed) => streams::explain(&rt, Err(Stop::Failed)),
+        Err(_) => streams::explain(&rt, Err(Stop::Cut)),
     }
 }

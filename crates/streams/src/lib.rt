@@ -186,7 +186,7 @@ pub fn while_answered<F: FnMut() -> Result<bool, Stop>>(rt: &HostRuntime, mut an
             Ok(true) => {}
             Ok(false) => return,
             Err(stop) => {
-                explain(rt, stop);
+                explain(rt, Err(stop));
                 return;
             }
         }
@@ -215,19 +215,19 @@ pub fn answer_cases<F: FnMut(Case, &[u8]) -> bool>(rt: &HostRuntime, mut answer:
                 }
             }
             Err(stop) => {
-                explain(rt, stop);
+                explain(rt, Err(stop));
                 return;
             }
         }
     }
 }
 
-// Says why there is no number, unless the input ended where it may.
-pub fn explain(rt: &HostRuntime, stop: Stop) {
-    match stop {
-        Stop::End => {}
-        Stop::Cut => say(rt, b"INPUT CUT\n"),
-        Stop::Failed => say(rt, b"INPUT FAILED\n"),
+// Says why there is no number, unless the input ended where it may. Of a number it says nothing.
+pub fn explain(rt: &HostRuntime, next: Result<usize, Stop>) {
+    match next {
+        Ok(_) | Err(Stop::End) => {}
+        Err(Stop::Cut) => say(rt, b"INPUT CUT\n"),
+        Err(Stop::Failed) => say(rt, b"INPUT FAILED\n"),
     }
 }
 

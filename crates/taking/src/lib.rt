@@ -15,6 +15,9 @@ use placing::{Phase, Reading};
 use refusals::Refusal;
 use scanning::Scan;
 
+// A value outside its limits.
+const OUTSIDE: Refusal = Refusal::OutsideLimits;
+
 // A reading behind IT, under that time control.
 fn with_time(r: Reading, time: Time) -> Reading
     ensures { result ≡ with_time r time }
@@ -59,11 +62,11 @@ fn take_ratios(r: Reading, values: &[u64], count: usize) -> Result<Reading, Refu
     ensures { RatiosTaken r count values.now result }
 {
     if count < 2 {
-        return Err(Refusal::OutsideLimits);
+        return Err(OUTSIDE);
     }
     let listed = &values[1..count];
     if listed.contains(&0) {
-        return Err(Refusal::OutsideLimits);
+        return Err(OUTSIDE);
     }
     let time = Time {
         ratios: copy_ratios(listed),
@@ -78,7 +81,7 @@ pub fn take_control(r: Reading, item: usize, values: &[u64], scan: Scan) -> Resu
     ensures { (w : List ℕ) → Ready r w → LineTaken r item (scanned_of values.now scan) result w w }
 {
     if scan.outside {
-        return Err(Refusal::OutsideLimits);
+        return Err(OUTSIDE);
     }
     match r.phase {
         Phase::BeforeTime => Ok(take_time(r, values)),
@@ -101,7 +104,7 @@ pub fn take_item(
     ensures { LineTaken r item (scanned_of values.now scan) (stays r result) cards.old cards.new }
 {
     if scan.outside {
-        return Err(Refusal::OutsideLimits);
+        return Err(OUTSIDE);
     }
     blocks::take_values(cards, item, values, scan.count, r.time.ordinates)
 }

@@ -7,7 +7,7 @@ ghost use Rattle.meaning.specs.Records.{table, most_ordinates};
 ghost use Rattle.records.specs.Rows.{words_of};
 ghost use Rattle.stack.specs.View.{Fits};
 ghost use Rattle.placing.specs.Readings.{Ready};
-ghost use Rattle.turns.specs.Turns.{StateBegins, copied_last, OpensNext, EndsDeck};
+ghost use Rattle.turns.specs.Turns.{StateBegins, Stops, copied_last, OpensNext, EndsDeck};
 
 use blocks::Name;
 use placing::Reading;
@@ -55,6 +55,13 @@ pub fn first_state(cards: &mut [u64]) -> State
     }
 }
 
+// The deck is refused, by whatever number.
+pub fn stop(number: u64, line: u64) -> Result<Turn, Refused>
+    ensures { Stops number line result }
+{
+    Err(Refused { number, line })
+}
+
 // The hydrograph held last, in front of the ordinates, if no block was named.
 fn copy_if_last(ordinates: &mut [u64], work: &[u64], held: Stack, nq: usize, named: usize)
     requires { (1 ≤ held.depth) × Fits held.depth nq (length work.now) }
@@ -65,25 +72,22 @@ fn copy_if_last(ordinates: &mut [u64], work: &[u64], held: Stack, nq: usize, nam
     }
 }
 
-// KK: unless the block that was open was refused where it closed, the next one is opened.
+// KK: unless the block that was open was refused where it closed, by whatever number, the next one is opened.
 pub fn open_next(
     s: State,
     r: Reading,
     name: Name,
     at: usize,
     line: u64,
-    closed: Result<Stack, Refusal>,
+    closed: Result<Stack, u64>,
     cards: &mut [u64],
 ) -> Result<State, Refused>
     requires { (name.letters ≤ 6) × Ready r cards.old }
     ensures { OpensNext r name at line closed s.blocks result cards.new }
 {
-    let held = closed.map_err(|refusal| Refused { refusal, line })?;
+    let held = closed.map_err(|number| Refused { number, line })?;
     if s.blocks >= BLOCKS {
-        return Err(Refused {
-            refusal: Refusal::TooManyBlocks,
-            line,
-        });
+        return Err(Refusal::TooManyBlocks.at_line(line));
     }
     Ok(State {
         reading: placing::open_block(r, name, cards),
@@ -94,12 +98,12 @@ pub fn open_next(
     })
 }
 
-// ZZ: unless the block that was open was refused where it closed, one hydrograph is to be held.
+// ZZ: unless the block that was open was refused where it closed, by whatever number, one hydrograph is to be held.
 pub fn end_deck(
     s: State,
     nq: usize,
     line: u64,
-    closed: Result<Stack, Refusal>,
+    closed: Result<Stack, u64>,
     named: usize,
     work: &[u64],
     ordinates: &mut [u64],
@@ -107,12 +111,9 @@ pub fn end_deck(
     requires { Fits 1 nq (length work.now) }
     ensures { EndsDeck nq line closed s.blocks named result work.now ordinates.old ordinates.new }
 {
-    let last = closed.map_err(|refusal| Refused { refusal, line })?;
+    let last = closed.map_err(|number| Refused { number, line })?;
     if last.depth != 1 {
-        return Err(Refused {
-            refusal: Refusal::NotOneHeld,
-            line,
-        });
+        return Err(Refusal::NotOneHeld.at_line(line));
     }
     copy_if_last(ordinates, work, last, nq, named);
     Ok(Worked {

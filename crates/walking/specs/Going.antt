@@ -21,12 +21,11 @@ use Rattle.stack.specs.declared.Stack.{Stack}
 use Rattle.stack.specs.View.{view}
 use Rattle.telling.specs.declared.Closed.{Closed}
 use Rattle.writing.specs.WrittenResult.{record_told, record_put, copied_named}
+use Rattle.closing.specs.declared.Unclosed.{Unclosed}
 use Rattle.closing.specs.ClosedBlock.{Closes}
 use Rattle.closing.specs.BetweenBlocks.{Carried, HeldAfter}
 use Rattle.turns.specs.declared.State.{State}
-use Rattle.refusals.specs.declared.Refusal.{Refusal}
 use Rattle.refusals.specs.declared.Refused.{Refused}
-use Rattle.refusals.specs.Numbers.{refusal_number}
 use Rattle.turns.specs.Turns.{Finished}
 use Rattle.turns.specs.declared.Worked.{Worked}
 use Rattle.turns.specs.declared.Turn.{Turn}
@@ -87,7 +86,7 @@ pub record DoneIs (deck : List ℕ) (named place n m : ℕ) (listed : List ℕ) 
 
 -- what the work on a deck came to: refused, or sound
 abbrev pub WorkedIs : List ℕ → (named place n m : ℕ) → (listed : List ℕ) → std.Result Worked Refused → (ordinates records : List ℕ) → Type 0
-WorkedIs deck named place n m listed (Err r) ordinates records = worked_under (Only place) deck ≡ Stopped (refusal_number r.refusal) r.line
+WorkedIs deck named place n m listed (Err r) ordinates records = worked_under (Only place) deck ≡ Stopped r.number r.line
 WorkedIs deck named place n m listed (Ok w) ordinates records = DoneIs deck named place n m listed w.nq w.blocks ordinates records
 
 -- the same where the walk stands in a state, whose ratios are the deck's
@@ -113,13 +112,13 @@ reading_under place r =
     record { phase = r.phase; free = r.free; time = time_under (get_or (ratios_is r.time.ratios) place 100) r.time; name = r.name }
 
 -- what is held where a block is closed, or what it is refused for
-abbrev pub held_of : std.Result Closed Refusal → Finished
+abbrev pub held_of : std.Result Closed Unclosed → Finished
 held_of (Ok c) = Ok c.held
-held_of (Err r) = Err r
+held_of (Err u) = Err u.refusal
 
 -- A block finished: closed, and, if it was not refused, its result written under the ratio at a place, counted from 0.
 pub record Finishes (τ : Time) (b : Block) (s : Stack) (named place k : ℕ) (x : Finished) (work work' ordinates ordinates' records records' : List ℕ) : Type 0 where
-  pub closed : std.Result Closed Refusal
+  pub closed : std.Result Closed Unclosed
   pub closes : Closes τ b s work closed work'
   pub held : x ≡ held_of closed
   pub copied : IfOk closed (λ c. ordinates' ≡ copied_named named k τ.ordinates (part (most_ordinates * (c.held.depth - 1)) τ.ordinates work') ordinates)

@@ -24,11 +24,11 @@ use Rattle.stack.specs.declared.Stack.{Stack}
 use Rattle.stack.specs.View.{view}
 use Rattle.telling.specs.declared.Closed.{Closed}
 use Rattle.writing.specs.WrittenResult.{record_told, record_put, copied_named}
-use Rattle.closing.specs.ClosedBlock.{Closes}
+use Rattle.closing.specs.declared.Unclosed.{Unclosed}
+use Rattle.closing.specs.ClosedBlock.{number_in, Closes}
 use Rattle.closing.specs.ToldResult.{result_of, told_number}
 use Rattle.closing.specs.BetweenBlocks.{Carried, carried_more, HeldAfter, held_more}
 use Rattle.passes.specs.One.{one_refusal}
-use Rattle.refusals.specs.declared.Refusal.{Refusal}
 use Rattle.refusals.specs.Numbers.{refusal_in}
 use Rattle.turns.specs.Turns.{Finished, stack_in, some_refused}
 use Rattle.walking.specs.OneRun.{standing, closed_run}
@@ -39,9 +39,9 @@ pub record ClosedWell (named place n m : ℕ) (q : run.Reading) (was : Run) (nq 
   pub held : HeldAfter (length (closed_run q was).results) (stack_in x) nq work
   pub carried : Carried named place was.time n m (closed_run q was).results ordinates records
 
-number_held : (c : std.Result Closed Refusal) → refusal_in (held_of c) ≡ refusal_in c
+number_held : (c : std.Result Closed Unclosed) → refusal_in (held_of c) ≡ number_in c
 number_held (Ok c) = refl
-number_held (Err r) = refl
+number_held (Err u) = refl
 
 module _ (named place n m : ℕ) (r : Reading) (h : Stack) (blocks : ℕ) (x : Finished) (work work' ordinates ordinates' records records' cards : List ℕ) (rs : List Result) where
   abbrev reading : Phase → run.Reading
@@ -82,13 +82,13 @@ module _ (named place n m : ℕ) (r : Reading) (h : Stack) (blocks : ℕ) (x : F
         let f : Finishes (time_is here.time) (block_is r cards) h named place (length rs) x work work' ordinates ordinates' records records' = rw count at c in
         finished f.closed f.closes f.held f.copied f.written
       where
-        finished : (closed : std.Result Closed Refusal) → Closes (time_is here.time) (block_is r cards) h work closed work' → x ≡ held_of closed
+        finished : (closed : std.Result Closed Unclosed) → Closes (time_is here.time) (block_is r cards) h work closed work' → x ≡ held_of closed
             → IfOk closed
             (λ c.
             ordinates' ≡ copied_named named (length rs) r.time.ordinates (part (most_ordinates * (c.held.depth - 1)) r.time.ordinates work') ordinates)
             → IfOk closed (λ c. records' ≡ record_put (length rs) (record_told (block_is r cards).name (time_is here.time).ratio (place + 1) c) records)
             → ClosedWell named place n m (reading phase.InBlock) was r.time.ordinates x work' ordinates' records'
-        finished (Err e) closes is copied written = absurd (some_refused e (sym (ap refusal_in is) ∙ none))
+        finished (Err u) closes is copied written = absurd (some_refused u.refusal (sym (ap refusal_in is) ∙ none))
         finished (Ok c) closes is copied written =
             let b = block_is r cards in
             let long : length (rs ++ (result_of (time_is here.time) b h work ∷ [])) ≡ length rs + 1 = length-append rs (result_of (time_is here.time) b h work ∷ []) in

@@ -6,7 +6,6 @@ use Rattle.std.specs.Prelude.{ℕ, Ok, Err, List}
 use Rattle.meaning.specs.Run as run
 use Rattle.meaning.specs.Run.{Stopped, Done, block_count}
 use Rattle.refusals.specs.declared.Refused as refusals
-use Rattle.refusals.specs.Numbers.{refusal_number}
 use Rattle.turns.specs.declared.Worked.{Worked}
 use Rattle.blocks.specs.Meant.{ratios_is}
 use Rattle.walking.specs.declared.Walked.{Walked}
@@ -16,7 +15,7 @@ pub data Said : Type 0 where
   Accepted : (nq blocks : ℕ) → (listed : List ℕ) → Said
 
 abbrev pub said_by : std.Result Worked refusals.Refused → (listed : List ℕ) → Said
-said_by (Err r) listed = Refused (refusal_number r.refusal) r.line
+said_by (Err r) listed = Refused r.number r.line
 said_by (Ok w) listed = Accepted w.nq w.blocks listed
 
 abbrev pub said : Walked → Said

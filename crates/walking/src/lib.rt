@@ -101,27 +101,18 @@ fn step(
     match got.event {
         Event::Opened(name) => {
             let closed = close_open(r, s.held, s.blocks, asked, work, ordinates, records, cards);
-            let next = turns::open_next(s, r, name, got.at, line, closed, cards)?;
+            let told = closed.map_err(Refusal::number);
+            let next = turns::open_next(s, r, name, got.at, line, told, cards)?;
             Ok(Turn::GoesOn(next))
         }
         Event::Ended => {
             let closed = close_open(r, s.held, s.blocks, asked, work, ordinates, records, cards);
-            let worked = turns::end_deck(
-                s,
-                r.time.ordinates,
-                line,
-                closed,
-                named,
-                work,
-                ordinates,
-            )?;
+            let told = closed.map_err(Refusal::number);
+            let worked = turns::end_deck(s, r.time.ordinates, line, told, named, work, ordinates)?;
             Ok(Turn::Ended(worked))
         }
-        Event::Refused(refusal) => Err(Refused { refusal, line }),
-        Event::Missing => Err(Refused {
-            refusal: Refusal::NoLastLine,
-            line: 0,
-        }),
+        Event::Refused(refusal) => turns::stop(refusal.number(), line),
+        Event::Missing => turns::stop(Refusal::NoLastLine.number(), 0),
     }
 }
 

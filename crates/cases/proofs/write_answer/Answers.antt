@@ -1,6 +1,5 @@
 -- The line of an acceptance, or that of a refusal; either has room.
 use native.Mathlib.Omega.{arith}
-use Rattle.refusals.specs.Numbers.{refusal_number}
 use Rattle.cases.specs.Text.{answer_line}
 use Rattle.cases.specs.Fronts.{counts_short, refusal_short}
 use Rattle.cases.proofs.write_answer.Goals as goal
@@ -16,6 +15,6 @@ pub returns-in-Err : goal.returns-in-Err
 unfolding answer_line
 returns-in-Err c =
     let told = c.in-Err in
-    let written = rw c.number.ensures at c.write_refusal.ensures in
-    let fits = refusal_short (refusal_number told.refused.refusal) told.refused.line (omega arith) (omega arith) in
+    let written = c.write_refusal.ensures in
+    let fits = refusal_short told.refused.number told.refused.line (omega arith) (omega arith) in
     record { text = rw told.is written; short = omega (arith, written.place) }

@@ -12,7 +12,7 @@ pub returns-in-Err-clause-records_after : goal.returns-in-Err-clause-records_aft
 returns-in-Err-clause-records_after c =
     let x = c.args in
     let is : refusal_number c.in-Err.refusal ≡ size_refusal (length x.work.now) (length x.deck.now) = sym (ap refusal_in c.in-Err.is) ∙ c.size_refusal.ensures in
-    c.refuse.ensures.records_after
+    rw (c.at_line.ensures.0, c.at_line.ensures.1) at c.refuse.ensures.records_after
     ∙ rw is (refused-size x.deck.now x.named x.ratio (lent_as x.work.now x.ordinates.now x.records.now) (λ z. some_refused c.in-Err.refusal (is ∙ z)))
 
 pub returns-in-Err-clause-listed : goal.returns-in-Err-clause-listed
@@ -26,20 +26,20 @@ returns-in-Ok-clause-records_after c =
     let x = c.args in
     let w = c.walk_every-walked in
     let sized : size_refusal (length x.work.now) (length x.deck.now) ≡ 0 = sym c.size_refusal.ensures ∙ ap refusal_in c.in_default.is in
-    let d = rw (c.fill.auto.self, c.fill-2.auto.self, c.in-Ok.is) at w.ensures.every in
+    let d = rw (c.zero_words.auto.s, c.fill_bytes.auto.s, c.in-Ok.is) at w.ensures.every in
     c.settle-answer.ensures
     ∙ rw c.count_of.ensures
     (settled-as x.deck.now x.named x.ratio x.work.now x.ordinates.now x.records.now w.new.work w.new.ordinates w.new.records
-    w.auto.work (w.auto.ordinates ∙ c.fill.auto.self) (w.auto.records ∙ c.fill-2.auto.self) (ratios_is w.result.ratios) c.in-Ok.worked.nq c.in-Ok.worked.blocks sized d)
+    w.auto.work (w.auto.ordinates ∙ c.zero_words.auto.s) (w.auto.records ∙ c.fill_bytes.auto.s) (ratios_is w.result.ratios) c.in-Ok.worked.nq c.in-Ok.worked.blocks sized d)
 
 pub returns-in-Ok-clause-listed : goal.returns-in-Ok-clause-listed
 returns-in-Ok-clause-listed c =
     let x = c.args in
     let w = c.walk_every-walked in
     let sized : size_refusal (length x.work.now) (length x.deck.now) ≡ 0 = sym c.size_refusal.ensures ∙ ap refusal_in c.in_default.is in
-    let d = rw (c.fill.auto.self, c.fill-2.auto.self, c.in-Ok.is) at w.ensures.every in (
+    let d = rw (c.zero_words.auto.s, c.fill_bytes.auto.s, c.in-Ok.is) at w.ensures.every in (
       listed_as x.deck.now x.named x.ratio x.work.now x.ordinates.now x.records.now w.new.work w.new.ordinates w.new.records
-          w.auto.work (w.auto.ordinates ∙ c.fill.auto.self) (w.auto.records ∙ c.fill-2.auto.self) (ratios_is w.result.ratios) c.in-Ok.worked.nq c.in-Ok.worked.blocks sized d,
+          w.auto.work (w.auto.ordinates ∙ c.zero_words.auto.s) (w.auto.records ∙ c.fill_bytes.auto.s) (ratios_is w.result.ratios) c.in-Ok.worked.nq c.in-Ok.worked.blocks sized d,
       w.ensures.few-ratios,
     )
 
@@ -51,8 +51,8 @@ returns-in-Err-worked-clause-records_after c =
     let sized : size_refusal (length x.work.now) (length x.deck.now) ≡ 0 = sym c.size_refusal.ensures ∙ ap refusal_in c.in_default.is in
     let stop = rw c.in-Err-worked.is at w.ensures.every in
     refused_as x.deck.now x.named x.ratio x.work.now x.ordinates.now x.records.now w.new.work w.new.ordinates w.new.records
-    w.auto.work (w.auto.ordinates ∙ c.fill.auto.self) (w.auto.records ∙ c.fill-2.auto.self) _ (refusal_number r.refusal) r.line c.refuse-in-Err-worked.ensures.records_after
-    (stopped x.deck.now x.named x.ratio (lent_as x.work.now x.ordinates.now x.records.now) sized (refusal_number r.refusal) r.line stop)
+    w.auto.work (w.auto.ordinates ∙ c.zero_words.auto.s) (w.auto.records ∙ c.fill_bytes.auto.s) _ r.number r.line c.refuse-in-Err-worked.ensures.records_after
+    (stopped x.deck.now x.named x.ratio (lent_as x.work.now x.ordinates.now x.records.now) sized r.number r.line stop)
 
 pub returns-in-Err-worked-clause-listed : goal.returns-in-Err-worked-clause-listed
 returns-in-Err-worked-clause-listed c =
@@ -61,4 +61,4 @@ returns-in-Err-worked-clause-listed c =
     let sized : size_refusal (length x.work.now) (length x.deck.now) ≡ 0 = sym c.size_refusal.ensures ∙ ap refusal_in c.in_default.is in
     let stop = rw c.in-Err-worked.is at c.walk_every-walked.ensures.every in
     let none = c.refuse-in-Err-worked.ensures.none in
-    (none.0 ∙ listed_stopped x.deck.now (length x.work.now) (refusal_number r.refusal) r.line sized stop, none.1)
+    (none.0 ∙ listed_stopped x.deck.now (length x.work.now) r.number r.line sized stop, none.1)

@@ -43,10 +43,10 @@ returns-in-Opened-event c =
 
 pub returns-in-Refused : goal.returns-in-Refused
 returns-in-Refused c =
-    let g = c.loop.invariant in
-    let h = c.read_on-got-2.ensures in
-    let cards = c.read_on-got-2.new.cards in
-    ⊎_elim
-    (λ w. let f = rw w.1 at h.found in refused g cards f.2)
-    (λ w. let f = rw w at h.found in missing g cards f.2)
-    c.in-Refused.is
+    let f = rw c.in-Refused.is at c.read_on-got-2.ensures.found in
+    refused c.loop.invariant c.read_on-got-2.new.cards f.2
+
+pub returns-in-Missing : goal.returns-in-Missing
+returns-in-Missing c =
+    let f = rw c.in-Missing.is at c.read_on-got-2.ensures.found in
+    missing c.loop.invariant c.read_on-got-2.new.cards f.2

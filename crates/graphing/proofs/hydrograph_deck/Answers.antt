@@ -38,5 +38,5 @@ returns-in-Err c =
     let ran = c.run-answer in
     let written = c.write_refusal.ensures in
     let named = run-names x.deck.now x.named x.ratio ran.result ran.ensures (omega arith) (omega arith) (omega arith) (omega arith) (omega arith) in
-    let text = hydrograph-refused x.deck.now x.named x.ratio ran.result named c.in-Err.is written c.number.ensures refl in
+    let text = hydrograph-refused x.deck.now x.named x.ratio ran.result named c.in-Err.is written refl refl in
     record { told = text; counted = written_counted written }

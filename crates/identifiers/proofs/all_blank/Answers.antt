@@ -10,5 +10,5 @@ use Rattle.identifiers.proofs.all_blank.Goals as goal
 
 pub returns : goal.returns
 returns c =
-    let all : c.all.result ≡ list_all (λ b. b =? blank) c.args.l.now = all_from_yields_List (λ b. b =? blank) _ _ c.all.result c.all.ensures.ran (YieldsList-from_slice _ c.iter.ensures.rest) (λ x b q k. search (rules, tests)) in
+    let all : c.all.result ≡ list_all (λ b. b =? blank) c.args.l.now = all_from_yields_List {all = c.args.l.now} (λ b. b =? blank) _ _ c.all.result c.all.ensures.ran (YieldsList-from_slice c.args.l.now (search rules)) (λ x b q k. search (rules, tests)) in
     all ∙ blanks_all c.args.l.now

@@ -3,10 +3,10 @@ use Rattle.meaning.specs.Words.{when◌then◌else◌}
 use Rattle.passes.specs.Apart.{rank_of}
 use Rattle.lending.proofs.rank_of.Goals as goal
 
-pub returns-in-Overtopped : goal.returns-in-Overtopped
+pub returns-then-number : goal.returns-then-number
 unfolding rank_of when◌then◌else◌
-returns-in-Overtopped c = search (tests, rules)
+returns-then-number c = search (tests, rules)
 
-pub returns-in_default : goal.returns-in_default
+pub returns-else-number : goal.returns-else-number
 unfolding rank_of when◌then◌else◌
-returns-in_default c = search (tests, rules)
+returns-else-number c = search (tests, rules)

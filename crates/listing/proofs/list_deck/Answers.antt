@@ -29,5 +29,5 @@ returns-in-Err c =
     let r = c.run_listed-ran in
     let w = c.write_refusal.ensures in
     let printed =
-    refused_prints c.args.deck.now r.result.answer r.ensures.records_after (omega arith) (omega arith) (omega arith) c.in-Err.is w c.number.ensures refl in
+    refused_prints c.args.deck.now r.result.answer r.ensures.records_after (omega arith) (omega arith) (omega arith) c.in-Err.is w refl refl in
     record { listed = printed; counted = written_counted w }

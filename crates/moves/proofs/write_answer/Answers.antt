@@ -9,7 +9,7 @@ pub write_told-requires : goal.write_told-requires
 write_told-requires c = omega (arith, told_short (bytes "MOVED ") c.in-Ok.count (omega arith))
 
 pub write_told-requires-in-Err : goal.write_told-requires-in-Err
-write_told-requires-in-Err c = omega (arith, told_short (bytes "REFUSED ") c.number.result (omega arith))
+write_told-requires-in-Err c = omega (arith, told_short (bytes "REFUSED ") c.in-Err.number (omega arith))
 
 pub returns-in-Ok : goal.returns-in-Ok
 unfolding move_line
@@ -21,4 +21,4 @@ pub returns-in-Err : goal.returns-in-Err
 unfolding move_line
 returns-in-Err c =
     let written = c.write_told-in-Err.ensures in
-    record { text = rw c.in-Err.is (rw c.number.ensures at written); short = omega (arith, written.place, told_short (bytes "REFUSED ") c.number.result (omega arith)) }
+    record { text = rw c.in-Err.is written; short = omega (arith, written.place, told_short (bytes "REFUSED ") c.in-Err.number (omega arith)) }

@@ -12,7 +12,7 @@ pub returns-in_default-k : goal.returns-in_default-k
 returns-in_default-k c = past_fields _ (ap field_row c.in-11.is) c.in_default-k.in_default-k-own.rest
 
 pub returns-in-0-k-2 : goal.returns-in-0-k-2
-returns-in-0-k-2 c = rw (c.in-12.is, c.in-0-k-2.is)
+returns-in-0-k-2 c = rw (c.in-12.is, c.in-0-k-2.is, c.number.ensures)
 
 pub returns-in-1-to-9 : goal.returns-in-1-to-9
 returns-in-1-to-9 c = like_fields _ (ap field_row c.in-12.is) c.in-1-to-9.in_default-own.rest.1 c.in-1-to-9.if-k-lt10-own.true
@@ -36,7 +36,7 @@ pub returns-in_default-k-7 : goal.returns-in_default-k-7
 returns-in_default-k-7 c = past_fields _ (ap field_row c.in-7.is) c.in_default-k-7.in_default-k-7-own.rest
 
 pub returns-in-1-k-4 : goal.returns-in-1-k-4
-returns-in-1-k-4 c = rw (c.in-8.is, c.in-1-k-4.is)
+returns-in-1-k-4 c = rw (c.in-8.is, c.in-1-k-4.is, c.number-in-1-k-4.ensures)
 
 pub returns-in_default-k-8 : goal.returns-in_default-k-8
 returns-in_default-k-8 c = past_fields _ (ap field_row c.in-8.is) c.in_default-k-8.in_default-k-8-own.rest

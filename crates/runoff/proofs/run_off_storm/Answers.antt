@@ -40,8 +40,8 @@ run_off-requires-clause-q_value c =
     let listed = c.min-listed.result in
     let front = c.list_excess.new.q in
     let whole = front ++ drop listed q in
-    let filled : c.fill.new.self ≡ replicate (length (part listed (length whole - listed) whole)) 0 = search rules in
-    let zeros = zeros_through q front c.fill.new.self listed (omega arith) c.list_excess.ensures.1 filled in
+    let filled = c.zero_words.ensures in
+    let zeros = zeros_through q front c.zero_words.new.s listed (omega arith) c.list_excess.ensures.1 filled in
     zeros ∙ ap (λ (n : ℕ). replicate n 0) (sym (ap length zeros ∙ length-replicate (length whole) 0))
 
 pub returns : goal.returns
@@ -54,9 +54,9 @@ returns c =
     let excess = c.list_excess.new.words in
     let within : listed ≤ length q = omega arith in
     let least : listed ≡ min (length x.rains.now) (length q) = omega arith in
-    let filled : c.fill.new.self ≡ replicate (length (part listed (length whole - listed) whole)) 0 = search rules in
-    let zeros = zeros_through q front c.fill.new.self listed within c.list_excess.ensures.1 filled in
-    let same : length (put listed (length whole - listed) whole c.fill.new.self) ≡ length q =
+    let filled = c.zero_words.ensures in
+    let zeros = zeros_through q front c.zero_words.new.s listed within c.list_excess.ensures.1 filled in
+    let same : length (put listed (length whole - listed) whole c.zero_words.new.s) ≡ length q =
     ap length zeros ∙ length-replicate (length whole) 0 ∙ long_of q front listed within c.list_excess.ensures.1 in
     let made = made_of x.rains.now q excess x.storm listed within c.list_excess.ensures.0 in
     c.run_off.ensures

@@ -18,6 +18,6 @@ pub returns-in-Err : goal.returns-in-Err
 returns-in-Err c =
     let x = c.args in
     let ran = c.run-answer in
-    let written = rw c.number.ensures at c.write_refusal.ensures in
+    let written = c.write_refusal.ensures in
     let sheet = sheet-refused x.deck.now x.named x.ratio ran.result ran.ensures (omega arith) (omega arith) (omega arith) c.in-Err.is in
     record { told = rw (← sheet) written; counted = written_counted written }

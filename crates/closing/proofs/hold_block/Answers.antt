@@ -3,16 +3,18 @@ use mathlib.Core.Path.{◌≡◌, sym, ap, ◌∙◌}
 use mathlib.Core.List.{[]}
 use native.Mathlib.Omega.{arith}
 use lib.ListN.{length}
-use Rattle.std.specs.Prelude.{Some, None}
+use Rattle.std.specs.Prelude.{Bool, true, false, refl, Result, Ok, Err, Some, None}
 use Rattle.std.proofs.lemmas.Result.{err_from_is_err_and}
 use Rattle.meaning.specs.Blocks.{kind_number}
+use Rattle.refusals.specs.declared.Refusal.{Refusal}
 use Rattle.refusals.specs.declared.Refusal.TheVariants as refusal
 use Rattle.blocks.specs.Meant.{time_is}
 use Rattle.blocks.specs.Cards.{block_of}
 use Rattle.summary.specs.Summary.{summary_within, over-told, within_told}
-use Rattle.making.specs.Made.{made_held, made_risen}
+use Rattle.stack.specs.declared.Stack.{Stack}
+use Rattle.making.specs.Made.{made_by, made_held}
 use Rattle.closing.specs.ClosedBlock.{closes_by_shape, made_last, made_deep, closes_by_rise, closes_by_flow, closes_held}
-use Rattle.closing.proofs.close_block.Goals as goal
+use Rattle.closing.proofs.hold_block.Goals as goal
 
 pub returns-in_err-shape : goal.returns-in_err-shape
 returns-in_err-shape c = λ name.
@@ -25,13 +27,19 @@ make-requires c =
     let shape = c.in_ok-shape.ensures in
     record { held_within = c.requires.held_within; read = c.requires.read; by_index = λ name. record { is = sym (shape name).kind; sound = sym (shape name).number } }
 
+-- what is not held met 20, as a pool rose above its last row
+risen_of : {r : Result Stack Refusal} (rose : Bool) (next : Stack) → r ≡ made_by rose next → ((h : Stack) → r ≡ Ok h → ⊥) → (r ≡ Err refusal.Overtopped) × (rose ≡ true)
+risen_of true next met held = (met, refl)
+risen_of false next met held = absurd (held next met)
+
 pub returns-in_err-next : goal.returns-in_err-next
 returns-in_err-next c = λ name.
     let x = c.args in
     let p = err_from_is_err_and c.from_residual-in_err-next.result c.from_residual-in_err-next.ensures.1 in
-    let made = c.in_err-next.ensures name in
-    let risen = made_risen made in
-    rw (p.1, p.2, risen.0) (closes_by_rise (time_is x.time) (block_of name x.cards.now) x.held x.work.now (sym (c.in_ok-shape.ensures name).number) _ _ made.makes risen.1)
+    let made = c.make.ensures name in
+    let risen = risen_of _ made.next made.answer (λ h held. grind (arith, held)) in
+    let twenty : c.in_err-next.field-0.0 ≡ refusal.Overtopped = grind (arith, risen.0) in
+    rw (p.1, p.2, twenty) (closes_by_rise (time_is x.time) (block_of name x.cards.now) x.held x.work.now (sym (c.in_ok-shape.ensures name).number) _ _ made.makes risen.1)
 
 pub summarize_last-within-requires : goal.summarize_last-within-requires
 summarize_last-within-requires c =
