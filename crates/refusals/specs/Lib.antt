@@ -1,2 +1,3 @@
--- The numbers of the refusals.
+-- The numbers of the refusals, and that the definitions refuse by no other.
 pub mod Numbers
+pub mod Named
