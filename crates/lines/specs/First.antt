@@ -1,6 +1,6 @@
 -- The line at a place is the first of the deck's lines from there on: what the loop over a deck's lines goes by.
 --     fair-line      a fair one passes refusal 3, and the lines go on at `next`
---     unfair-line    any other meets it; unfair_end: and where its plain bytes stop is told
+--     unfair-line    any other meets it; unfair_by_three: and by that it is refused; unfair_end: and where its plain bytes stop is told
 use Prim.Native.Nat.{ℕ, suc, ◌+◌, ◌-◌, ◌≤◌, ◌<◌}
 use Rattle.std.specs.Prelude.{◌≡◌, Bool, ◌&&◌, List, [], ◌∷◌, ◌++◌, take, drop, Result, Ok, Err}
 use Rattle.std.proofs.Math.Path.{refl, ap}
@@ -16,9 +16,11 @@ use Rattle.meaning.specs.Lines.{lf, cr, in_front, lines_of, foreign}
 use Rattle.sequences.specs.Choices.{below_or_not, both_hold}
 use Rattle.sequences.specs.Parts.{part}
 use Rattle.sequences.specs.Runs.{run, run_within, run_at_within, run_at_stops, every-run, not_every}
+use Rattle.refusals.specs.declared.Refusal.{Refusal}
+use Rattle.refusals.specs.declared.Refusal.TheVariants.{ForeignLine}
 use Rattle.lines.specs.declared.Line.{Line}
 use Rattle.lines.specs.declared.Foreign.{Foreign}
-use Rattle.lines.specs.Line.{is_plain, fair_line, unfair_line, line_ending, line_from, line_at}
+use Rattle.lines.specs.Line.{is_plain, fair_line, unfair_line, line_ending, line_from, line_at, or_refusal}
 use Rattle.lines.specs.Plain.{plain-every, front, front-line, front_none, lines-run}
 
 -- A line that passes refusal 3 stands from `at` to `end`, and the next one starts at `next`.
@@ -183,6 +185,13 @@ module _ (s : List ℕ) (at : ℕ) (r : Result Line Foreign) (inside : at < leng
   -- any other, which is foreign
   refused : (foreign : Foreign) → r ≡ Err foreign → (foreign.end ≡ at + run is_plain (drop at s)) × ForeignAt s at
   refused foreign h = rw h at (rw (← found) at (told s at inside))
+
+  pub unfair_by_three : (refusal : Refusal) → or_refusal r ≡ Err refusal → refusal ≡ ForeignLine
+  unfair_by_three refusal h = by r h
+    where
+      by : (x : Result Line Foreign) → or_refusal x ≡ Err refusal → refusal ≡ ForeignLine
+      by (Ok line) told = cc
+      by (Err foreign) told = cc
 
   pub unfair_end : (foreign : Foreign) → r ≡ Err foreign → foreign.end ≡ at + run is_plain (drop at s)
   unfair_end foreign h = (refused foreign h).0

@@ -3,6 +3,8 @@ use Rattle.std.specs.Prelude.{ℕ, ◌+◌, ◌-◌, Bool, ◌&&◌, List, lengt
 use Rattle.meaning.specs.Words.{◌=?◌, ◌≤?◌, ◌<?◌, when◌then◌else◌}
 use Rattle.meaning.specs.Lines.{lf, cr}
 use Rattle.sequences.specs.Runs.{run}
+use Rattle.refusals.specs.declared.Refusal.{Refusal}
+use Rattle.refusals.specs.declared.Refusal.TheVariants.{ForeignLine}
 use Rattle.lines.specs.declared.Line.{Line}
 use Rattle.lines.specs.declared.Foreign.{Foreign}
 
@@ -28,3 +30,8 @@ line_from s at end = when 80 <? (end - at) then unfair_line end else line_ending
 
 abbrev pub line_at : List ℕ → ℕ → Result Line Foreign
 line_at s at = line_from s at (at + run is_plain (drop at s))
+
+-- the line, or the refusal that `From` makes of a foreign one
+abbrev pub or_refusal : Result Line Foreign → Result Line Refusal
+or_refusal (Ok line) = Ok line
+or_refusal (Err foreign) = Err ForeignLine

@@ -1,27 +1,23 @@
 -- Every number by which the definitions refuse is that of one of the twenty refusals.
---     Named             it is; Unmet: it is, unless nothing is refused
+--     Unmet             it is, unless nothing is refused
 --     stopped_named     where the work on a deck stops, under one ratio or under every one
 --     outcome_named     where a run answers a refusal
 use Rattle.std.specs.Prelude.{ℕ, zero, suc, ◌+◌, ◌-◌, ◌≡◌, refl, Bool, true, false, not, List, [], ◌∷◌, length}
 use Rattle.std.proofs.Common.{arith}
 use Rattle.meaning.specs.Words.{◌=?◌, ◌≤?◌, ◌<?◌, when◌then◌else◌, empty, met, first}
 use Rattle.meaning.specs.Lines.{lines_of, foreign, all_blank}
-use Rattle.meaning.specs.Fields.{Form, Fixed}
+use Rattle.meaning.specs.Fields.{Fixed}
 use Rattle.meaning.specs.Records.{Item, Record, ID, IT, JR, KK, KM, ZZ, Control, Of, Identified, Unknown, Known, identify, time_rules, ratio_rules, rules_of, filled_up, value_fields, any_faulty, any_outside, bad_name}
 use Rattle.meaning.specs.Water.{unroutable, coef_a, coef_b, coef_c, flow_limit}
 use Rattle.meaning.specs.Pool.{table_breaks}
 use Rattle.meaning.specs.Blocks.{Time, Block, Kind, NoKind, Basin, Inflow, Confluence, Reach, Pond, kind_number, kind_of, repeated, too_many, Held, takes, patternless, made, reach_steps, reach_k, reach_x, pond_volumes, pond_outflows, broken_by, broken, overtops}
-use Rattle.meaning.specs.Results.{Result, peak_of}
+use Rattle.meaning.specs.Results.{peak_of}
 use Rattle.meaning.specs.Run.{Head, Faulty, Skipped, Holds, holding, head_of, Reading, BeforeTime, BeforeBlocks, InBlock, Event, Refuse, Go, Open, End, unless, time_refusal, ratio_fields, ratio_refusal, name_refusal, item_values, item_refusal, read_record, read_by, read_line, taken_by, shape_refusal, flow_refusal, Run, flow_refusals, Standing, nothing_yet, closing_refusal, open_refusal, closed, Which, Every, Worked, Stopped, Done, Step, Stop, Next, step_unless, most_blocks, many_refusal, end_refusal, act, and_then, walk, worked_under, worked, Answer, Accepted, Refused, Lent, refused, accepted, block_count, no_room, settled, work_size, deck_size, outcome}
 use Rattle.refusals.specs.declared.Refusal.{Refusal}
 use Rattle.refusals.specs.declared.Refusal.TheVariants as refusal
-use Rattle.refusals.specs.Numbers.{refusal_number}
+use Rattle.refusals.specs.Numbers.{refusal_number, Named}
 
--- the number of a refusal
-abbrev pub Named : ℕ → Type 0
-Named n = (x : Refusal) × (refusal_number x ≡ n)
-
--- the same, unless nothing is refused
+-- it is, unless nothing is refused
 abbrev pub Unmet : ℕ → Type 0
 Unmet n = (n ≡ 0 → ⊥) → Named n
 

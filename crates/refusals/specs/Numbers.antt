@@ -3,7 +3,7 @@
 --     refusal_in        that of what came back: 0 where nothing is refused
 --     some_number       no refusal has the number 0; same_result: two that say the same are one
 --     in_order          all of them; named_by: the refusal of a number; same_number: two with one number are one
-use Rattle.std.specs.Prelude.{◌≡◌, refl, List, [], ◌∷◌, ℕ, ◌-◌, get_or, Result, Ok, Err}
+use Rattle.std.specs.Prelude.{◌≡◌, refl, List, [], ◌∷◌, ℕ, ◌-◌, get_or, Option, Some, None, Result, Ok, Err}
 use Rattle.std.proofs.Common.{sym, ap, ◌∙◌, arith}
 use Rattle.refusals.specs.declared.Refusal.{Refusal}
 use Rattle.refusals.specs.declared.Refusal.TheVariants as refusal
@@ -68,6 +68,14 @@ same_number x y h = sym (named_back x) ∙ ap named_by h ∙ named_back y
 
 pub some_number : (x : Refusal) → refusal_number x ≡ 0 → ⊥
 some_number x h = let first : x ≡ refusal.LittleWork = sym (named_back x) ∙ ap named_by h in omega (arith, h, ap refusal_number first)
+
+-- the number of a refusal; and the refusal of a number, or none where there is none
+abbrev pub Named : ℕ → Type 0
+Named n = (x : Refusal) × (refusal_number x ≡ n)
+
+abbrev pub IsNamed : ℕ → Option Refusal → Type 0
+IsNamed n (Some x) = refusal_number x ≡ n
+IsNamed n None = Named n → ⊥
 
 -- where nothing is refused in either, what came back is still to be compared
 pub same_result : {T : Type 0} (x y : Result T Refusal) → refusal_in x ≡ refusal_in y → ((a b : T) → x ≡ Ok a → y ≡ Ok b → a ≡ b) → x ≡ y

@@ -1,0 +1,39 @@
+-- The words that a field may hold: the number behind each, by which another one is refused, is that of a refusal.
+--     word_named    so it is in every field of a record
+use Rattle.std.specs.Prelude.{ℕ, zero, suc, ◌≡◌, refl, Bool, true, ◌&&◌, List, [], ◌∷◌}
+use Rattle.std.proofs.Common.{ap, sym, ◌∙◌, eqb-true}
+use Rattle.sequences.specs.Choices.{both_hold}
+use Rattle.meaning.specs.Words.{◌=?◌}
+use Rattle.meaning.specs.Records.{Rule, Unnamed, NotRead, Limited, Worded, Row, Item, rules_in, rule_at}
+use Rattle.refusals.specs.Numbers.{refusal_number, named_by, Named}
+use Rattle.records.specs.Rows.{row_at, field_rows, rules_by}
+
+-- One test over the rows, as of any rule: of a word, whether its number is a refusal's.
+abbrev is_named : Rule → Bool
+is_named Unnamed = true
+is_named NotRead = true
+is_named (Limited places low high) = true
+is_named (Worded refusal most low high) = refusal_number (named_by refusal) =? refusal
+
+abbrev all_named : List Rule → Bool
+all_named [] = true
+all_named (r ∷ rs) = is_named r && all_named rs
+
+abbrev rows_named : List Row → Bool
+rows_named [] = true
+rows_named (row ∷ rows) = all_named (rules_in row) && rows_named rows
+
+all-named : (rules : List Rule) → all_named rules ≡ true → (k : ℕ) → is_named (rule_at rules k) ≡ true
+all-named [] h k = refl
+all-named (r ∷ rs) h zero = (both_hold (is_named r) (all_named rs) h).0
+all-named (r ∷ rs) h (suc k) = all-named rs (both_hold (is_named r) (all_named rs) h).1 k
+
+rows-named : (rows : List Row) → rows_named rows ≡ true → (p k : ℕ) → is_named (rule_at (rules_in (row_at rows p)) k) ≡ true
+rows-named [] h p k = refl
+rows-named (row ∷ rows) h zero k = all-named (rules_in row) (both_hold (all_named (rules_in row)) (rows_named rows) h).0 k
+rows-named (row ∷ rows) h (suc p) k = rows-named rows (both_hold (all_named (rules_in row)) (rows_named rows) h).1 p k
+
+pub word_named : (item : Item) (k number most low high : ℕ) → rule_at (rules_by item) k ≡ Worded number most low high → Named number
+word_named item k number most low high e =
+    let same : (refusal_number (named_by number) =? number) ≡ true = sym (ap is_named e) ∙ rows-named field_rows refl item k in
+    (named_by number, eqb-true (refusal_number (named_by number)) number same)
