@@ -79,3 +79,40 @@ pub fn run(
 {
     run_listed(deck, named, ratio, work, ordinates, records).answer
 }
+
+#[cfg(test)]
+mod tests {
+    use super::*;
+    use refusals::Refusal;
+
+    fn name_of(answer: Answer) -> Option<Refusal> {
+        match answer {
+            Ok(_) => None,
+            Err(refused) => Refusal::of_number(refused.number),
+        }
+    }
+
+    // By the papers: no ZZ, a tab in a line, a line of no record, a KK before IT.
+    #[test]
+    fn a_refused_deck_has_its_name(rt: HostRuntime) {
+        let mut work = [0u64; answers::WORK];
+        let mut ordinates = [0u64; 300];
+        let mut records = [0u8; 40];
+        for (deck, refusal) in [
+            (&b""[..], Refusal::NoLastLine),
+            (&b"\t\n"[..], Refusal::ForeignLine),
+            (&b"XX\n"[..], Refusal::UnknownLine),
+            (&b"KK A\n"[..], Refusal::Misplaced),
+        ] {
+            let ran = run_listed(deck, 0, 0, &mut work, &mut ordinates, &mut records);
+            assert!(rt; name_of(ran.answer) == Some(refusal));
+        }
+    }
+
+    // Too few words to work in.
+    #[test]
+    fn little_work_has_its_name(rt: HostRuntime) {
+        let answer = run(b"", 0, 0, &mut [], &mut [], &mut []);
+        assert!(rt; name_of(answer) == Some(Refusal::LittleWork));
+    }
+}

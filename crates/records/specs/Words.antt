@@ -8,7 +8,7 @@ use Rattle.meaning.specs.Records.{Rule, Unnamed, NotRead, Limited, Worded, Row, 
 use Rattle.refusals.specs.Numbers.{refusal_number, named_by, Named}
 use Rattle.records.specs.Rows.{row_at, field_rows, rules_by}
 
--- One test over the rows, as of any rule: of a word, whether its number is a refusal's.
+-- Of each rule: the number behind a word is a refusal's. The others pass.
 abbrev is_named : Rule → Bool
 is_named Unnamed = true
 is_named NotRead = true

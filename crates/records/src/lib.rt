@@ -199,3 +199,22 @@ pub fn field_at(item: usize, k: usize, f: &[u8]) -> Option<Held>
 {
     rules::read_field(rule_at(item, k), f)
 }
+
+#[cfg(test)]
+mod tests {
+    use super::*;
+
+    fn behind_the_word(rule: Rule) -> Option<Refusal> {
+        match rule {
+            Rule::Worded(number, _, _, _) => Refusal::of_number(number),
+            _ => None,
+        }
+    }
+
+    // By the papers: another word than PREC is refused by 6, another than STOR by 7.
+    #[test]
+    fn another_word_is_refused_by_name(rt: HostRuntime) {
+        assert!(rt; behind_the_word(rule_at(JR, 0)) == Some(Refusal::Malformed));
+        assert!(rt; behind_the_word(rule_at(RS, 1)) == Some(Refusal::OutsideLimits));
+    }
+}

@@ -1,5 +1,4 @@
 -- Every number by which the definitions refuse is that of one of the twenty refusals.
---     Unmet             it is, unless nothing is refused
 --     stopped_named     where the work on a deck stops, under one ratio or under every one
 --     outcome_named     where a run answers a refusal
 use Rattle.std.specs.Prelude.{ℕ, zero, suc, ◌+◌, ◌-◌, ◌≡◌, refl, Bool, true, false, not, List, [], ◌∷◌, length}
@@ -18,22 +17,22 @@ use Rattle.refusals.specs.declared.Refusal.TheVariants as refusal
 use Rattle.refusals.specs.Numbers.{refusal_number, Named}
 
 -- it is, unless nothing is refused
-abbrev pub Unmet : ℕ → Type 0
-Unmet n = (n ≡ 0 → ⊥) → Named n
+abbrev NamedIfAny : ℕ → Type 0
+NamedIfAny n = (n ≡ 0 → ⊥) → Named n
 
-none_named : Unmet 0
+none_named : NamedIfAny 0
 none_named some = absurd (some refl)
 
 -- a test's own refusal; of two the first; and a test before others
-met_named : (t : Bool) (x : Refusal) → Unmet (met t (refusal_number x))
+met_named : (t : Bool) (x : Refusal) → NamedIfAny (met t (refusal_number x))
 met_named true x some = (x, refl)
 met_named false x some = absurd (some refl)
 
-first_named : (m n : ℕ) → Unmet m → Unmet n → Unmet (first m n)
+first_named : (m n : ℕ) → NamedIfAny m → NamedIfAny n → NamedIfAny (first m n)
 first_named zero n p q = q
 first_named (suc m) n p q = p
 
-test_named : (t : Bool) (x : Refusal) {n : ℕ} → Unmet n → Unmet (first (met t (refusal_number x)) n)
+test_named : (t : Bool) (x : Refusal) {n : ℕ} → NamedIfAny n → NamedIfAny (first (met t (refusal_number x)) n)
 test_named t x {n} p = first_named (met t (refusal_number x)) n (met_named t x) p
 
 -- A LINE
@@ -64,26 +63,26 @@ head_named l = by (foreign l) (all_blank l)
     by false true = tt
     by false false = holding_named (identify l)
 
-unless_named : (n : ℕ) (e : Event) → Unmet n → EventNamed e → EventNamed (unless n e)
+unless_named : (n : ℕ) (e : Event) → NamedIfAny n → EventNamed e → EventNamed (unless n e)
 unless_named zero e p q = q
 unless_named (suc n) e p q = p (λ z. omega (arith, z))
 
-time_named : (fs : List (List ℕ)) → Unmet (time_refusal fs)
+time_named : (fs : List (List ℕ)) → NamedIfAny (time_refusal fs)
 unfolding time_refusal
 time_named fs =
     test_named (any_faulty time_rules 0 (filled_up time_rules fs)) refusal.Malformed (met_named (any_outside time_rules 0 (filled_up time_rules fs)) refusal.OutsideLimits)
 
-ratio_named : (τ : Time) (fs : List (List ℕ)) → Unmet (ratio_refusal τ fs)
+ratio_named : (τ : Time) (fs : List (List ℕ)) → NamedIfAny (ratio_refusal τ fs)
 unfolding ratio_refusal
 ratio_named τ fs =
     test_named (not (empty τ.listed)) refusal.Misplaced
     (test_named (any_faulty ratio_rules 0 (ratio_fields fs)) refusal.Malformed (met_named (any_outside ratio_rules 0 (ratio_fields fs)) refusal.OutsideLimits))
 
-name_named : (name : List ℕ) → Unmet (name_refusal name)
+name_named : (name : List ℕ) → NamedIfAny (name_refusal name)
 unfolding name_refusal
 name_named name = met_named (bad_name name) refusal.Malformed
 
-item_named : (τ : Time) (b : Block) (item : Item) (fs : List (List ℕ)) → Unmet (item_refusal τ b item fs)
+item_named : (τ : Time) (b : Block) (item : Item) (fs : List (List ℕ)) → NamedIfAny (item_refusal τ b item fs)
 unfolding item_refusal
 item_named τ b item fs =
     test_named (repeated item b) refusal.Misplaced
@@ -127,7 +126,7 @@ line_named r l = by (head_of l) (head_named l)
     by (Holds record') p = record_named r l record'
 
 -- A BLOCK THAT CLOSES
-broken-named : (kind : Kind) (τ : Time) (b : Block) → Unmet (broken_by kind τ b)
+broken-named : (kind : Kind) (τ : Time) (b : Block) → NamedIfAny (broken_by kind τ b)
 broken-named NoKind τ b = none_named
 broken-named Basin τ b = none_named
 broken-named Inflow τ b = none_named
@@ -136,14 +135,14 @@ broken-named Reach τ b =
     met_named (unroutable (coef_a (reach_steps b) τ.minutes) (coef_b (reach_k b) (reach_x b)) (coef_c (reach_k b) (reach_x b))) refusal.Unroutable
 broken-named Pond τ b = met_named (table_breaks τ.minutes (pond_volumes b) (pond_outflows b)) refusal.BrokenTable
 
-shape_named : (τ : Time) (b : Block) (held : ℕ) → Unmet (shape_refusal τ b held)
+shape_named : (τ : Time) (b : Block) (held : ℕ) → NamedIfAny (shape_refusal τ b held)
 unfolding shape_refusal broken
 shape_named τ b held =
     test_named (kind_number (kind_of b) =? 0) refusal.NoKind
     (test_named (patternless τ b) refusal.NoPattern
     (test_named (held <? takes b) refusal.TooFewHeld (test_named (20 ≤? (held - takes b)) refusal.TooManyHeld (broken-named (kind_of b) τ b))))
 
-flows_named : (b : Block) (runs : List Run) → Unmet (flow_refusals b runs)
+flows_named : (b : Block) (runs : List Run) → NamedIfAny (flow_refusals b runs)
 unfolding flow_refusal
 flows_named b [] = none_named
 flows_named b (run ∷ runs) =
@@ -152,7 +151,7 @@ flows_named b (run ∷ runs) =
     (test_named (overtops run.time b taken) refusal.Overtopped (met_named (flow_limit <? peak_of (made run.time b taken).flow) refusal.FlowAboveLimit))
     (flows_named b runs)
 
-open_named : (r : Reading) (s : Standing) → Unmet (open_refusal r s)
+open_named : (r : Reading) (s : Standing) → NamedIfAny (open_refusal r s)
 unfolding closing_refusal
 open_named (BeforeTime form) s = none_named
 open_named (BeforeBlocks τ form) s = none_named
@@ -167,7 +166,7 @@ abbrev StepNamed : Step → Type 0
 StepNamed (Stop w) = WorkedNamed w
 StepNamed (Next r s) = Unit
 
-step_named : (n line : ℕ) (next : Step) → Unmet n → StepNamed next → StepNamed (step_unless n line next)
+step_named : (n line : ℕ) (next : Step) → NamedIfAny n → StepNamed next → StepNamed (step_unless n line next)
 step_named zero line next p q = q
 step_named (suc n) line next p q = p (λ z. omega (arith, z))
 

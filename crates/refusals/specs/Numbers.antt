@@ -3,6 +3,7 @@
 --     refusal_in        that of what came back: 0 where nothing is refused
 --     some_number       no refusal has the number 0; same_result: two that say the same are one
 --     in_order          all of them; named_by: the refusal of a number; same_number: two with one number are one
+--     Named             the number of a refusal; IsNamed: the refusal of a number, or none where no refusal has it
 use Rattle.std.specs.Prelude.{◌≡◌, refl, List, [], ◌∷◌, ℕ, ◌-◌, get_or, Option, Some, None, Result, Ok, Err}
 use Rattle.std.proofs.Common.{sym, ap, ◌∙◌, arith}
 use Rattle.refusals.specs.declared.Refusal.{Refusal}
@@ -69,7 +70,7 @@ same_number x y h = sym (named_back x) ∙ ap named_by h ∙ named_back y
 pub some_number : (x : Refusal) → refusal_number x ≡ 0 → ⊥
 some_number x h = let first : x ≡ refusal.LittleWork = sym (named_back x) ∙ ap named_by h in omega (arith, h, ap refusal_number first)
 
--- the number of a refusal; and the refusal of a number, or none where there is none
+-- the number of a refusal; and the refusal of a number, or none where no refusal has it
 abbrev pub Named : ℕ → Type 0
 Named n = (x : Refusal) × (refusal_number x ≡ n)
 

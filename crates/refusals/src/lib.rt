@@ -88,9 +88,9 @@ pub struct Refused {
 mod tests {
     use super::*;
 
-    // By the paper's own list: the numbers at which the lists of the code begin and end, and those that stand out of the order in which they are met.
+    // By the papers' list: the first and the last, and some between. 0 and 21 are no refusal's.
     #[test]
-    fn a_number_is_that_of_the_paper(rt: HostRuntime) {
+    fn a_number_has_the_papers_name(rt: HostRuntime) {
         for (number, refusal) in [
             (1, Refusal::LittleWork),
             (3, Refusal::ForeignLine),
