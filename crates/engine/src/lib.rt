@@ -106,6 +106,8 @@ mod tests {
         ] {
             let ran = run_listed(deck, 0, 0, &mut work, &mut ordinates, &mut records);
             assert!(rt; name_of(ran.answer) == Some(refusal));
+            let answer = run(deck, 0, 0, &mut work, &mut ordinates, &mut records);
+            assert!(rt; name_of(answer) == Some(refusal));
         }
     }
 

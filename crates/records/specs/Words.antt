@@ -9,31 +9,31 @@ use Rattle.refusals.specs.Numbers.{refusal_number, named_by, Named}
 use Rattle.records.specs.Rows.{row_at, field_rows, rules_by}
 
 -- Of each rule: the number behind a word is a refusal's. The others pass.
-abbrev is_named : Rule → Bool
-is_named Unnamed = true
-is_named NotRead = true
-is_named (Limited places low high) = true
-is_named (Worded refusal most low high) = refusal_number (named_by refusal) =? refusal
+abbrev names_refusal : Rule → Bool
+names_refusal Unnamed = true
+names_refusal NotRead = true
+names_refusal (Limited places low high) = true
+names_refusal (Worded refusal most low high) = refusal_number (named_by refusal) =? refusal
 
 abbrev all_named : List Rule → Bool
 all_named [] = true
-all_named (r ∷ rs) = is_named r && all_named rs
+all_named (r ∷ rs) = names_refusal r && all_named rs
 
 abbrev rows_named : List Row → Bool
 rows_named [] = true
 rows_named (row ∷ rows) = all_named (rules_in row) && rows_named rows
 
-all-named : (rules : List Rule) → all_named rules ≡ true → (k : ℕ) → is_named (rule_at rules k) ≡ true
+all-named : (rules : List Rule) → all_named rules ≡ true → (k : ℕ) → names_refusal (rule_at rules k) ≡ true
 all-named [] h k = refl
-all-named (r ∷ rs) h zero = (both_hold (is_named r) (all_named rs) h).0
-all-named (r ∷ rs) h (suc k) = all-named rs (both_hold (is_named r) (all_named rs) h).1 k
+all-named (r ∷ rs) h zero = (both_hold (names_refusal r) (all_named rs) h).0
+all-named (r ∷ rs) h (suc k) = all-named rs (both_hold (names_refusal r) (all_named rs) h).1 k
 
-rows-named : (rows : List Row) → rows_named rows ≡ true → (p k : ℕ) → is_named (rule_at (rules_in (row_at rows p)) k) ≡ true
+rows-named : (rows : List Row) → rows_named rows ≡ true → (p k : ℕ) → names_refusal (rule_at (rules_in (row_at rows p)) k) ≡ true
 rows-named [] h p k = refl
 rows-named (row ∷ rows) h zero k = all-named (rules_in row) (both_hold (all_named (rules_in row)) (rows_named rows) h).0 k
 rows-named (row ∷ rows) h (suc p) k = rows-named rows (both_hold (all_named (rules_in row)) (rows_named rows) h).1 p k
 
 pub word_named : (item : Item) (k number most low high : ℕ) → rule_at (rules_by item) k ≡ Worded number most low high → Named number
 word_named item k number most low high e =
-    let same : (refusal_number (named_by number) =? number) ≡ true = sym (ap is_named e) ∙ rows-named field_rows refl item k in
+    let same : (refusal_number (named_by number) =? number) ≡ true = sym (ap names_refusal e) ∙ rows-named field_rows refl item k in
     (named_by number, eqb-true (refusal_number (named_by number)) number same)

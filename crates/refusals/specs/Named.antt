@@ -16,7 +16,7 @@ use Rattle.refusals.specs.declared.Refusal.{Refusal}
 use Rattle.refusals.specs.declared.Refusal.TheVariants as refusal
 use Rattle.refusals.specs.Numbers.{refusal_number, Named}
 
--- it is, unless nothing is refused
+-- a number is that of a refusal, unless it is 0: nothing is refused then
 abbrev NamedIfAny : ℕ → Type 0
 NamedIfAny n = (n ≡ 0 → ⊥) → Named n
 
@@ -126,21 +126,21 @@ line_named r l = by (head_of l) (head_named l)
     by (Holds record') p = record_named r l record'
 
 -- A BLOCK THAT CLOSES
-broken-named : (kind : Kind) (τ : Time) (b : Block) → NamedIfAny (broken_by kind τ b)
-broken-named NoKind τ b = none_named
-broken-named Basin τ b = none_named
-broken-named Inflow τ b = none_named
-broken-named Confluence τ b = none_named
-broken-named Reach τ b =
+broken_named : (kind : Kind) (τ : Time) (b : Block) → NamedIfAny (broken_by kind τ b)
+broken_named NoKind τ b = none_named
+broken_named Basin τ b = none_named
+broken_named Inflow τ b = none_named
+broken_named Confluence τ b = none_named
+broken_named Reach τ b =
     met_named (unroutable (coef_a (reach_steps b) τ.minutes) (coef_b (reach_k b) (reach_x b)) (coef_c (reach_k b) (reach_x b))) refusal.Unroutable
-broken-named Pond τ b = met_named (table_breaks τ.minutes (pond_volumes b) (pond_outflows b)) refusal.BrokenTable
+broken_named Pond τ b = met_named (table_breaks τ.minutes (pond_volumes b) (pond_outflows b)) refusal.BrokenTable
 
 shape_named : (τ : Time) (b : Block) (held : ℕ) → NamedIfAny (shape_refusal τ b held)
 unfolding shape_refusal broken
 shape_named τ b held =
     test_named (kind_number (kind_of b) =? 0) refusal.NoKind
     (test_named (patternless τ b) refusal.NoPattern
-    (test_named (held <? takes b) refusal.TooFewHeld (test_named (20 ≤? (held - takes b)) refusal.TooManyHeld (broken-named (kind_of b) τ b))))
+    (test_named (held <? takes b) refusal.TooFewHeld (test_named (20 ≤? (held - takes b)) refusal.TooManyHeld (broken_named (kind_of b) τ b))))
 
 flows_named : (b : Block) (runs : List Run) → NamedIfAny (flow_refusals b runs)
 unfolding flow_refusal

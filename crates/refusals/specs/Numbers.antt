@@ -70,7 +70,7 @@ same_number x y h = sym (named_back x) ∙ ap named_by h ∙ named_back y
 pub some_number : (x : Refusal) → refusal_number x ≡ 0 → ⊥
 some_number x h = let first : x ≡ refusal.LittleWork = sym (named_back x) ∙ ap named_by h in omega (arith, h, ap refusal_number first)
 
--- the number of a refusal; and the refusal of a number, or none where no refusal has it
+-- a number by which something is refused; and what a number is told as
 abbrev pub Named : ℕ → Type 0
 Named n = (x : Refusal) × (refusal_number x ≡ n)
 
